@@ -1,0 +1,180 @@
+-- What a section of a file that is not at fault says: its numbers are within their limits, and it lies within the file.
+use Prim.Native.Nat.{ℕ, zero, suc, _+_, _*_, _-_, _≤_, _<_}
+use native.Mathlib.Omega.{arith}
+use mathlib.Core.Path.{_≡_}
+use mathlib.Core.Bool.{true}
+use mathlib.Core.List.{List}
+use mathlib.Core.Option.{none}
+use lib.ListN.{length, getD}
+use borrow.Author.Tests.{leb-true, ltb-true}
+use Rattle.reader.specs.declared.job.Link.{Link}
+use Rattle.reader.specs.declared.job.Job.{Job}
+use Rattle.reader.specs.declared.refusal.Refusal.the-variants.{Version, Count, Value}
+use Rattle.reader.specs.First.{first}
+use Rattle.reader.specs.Limits.{fileVersion, minNodes, maxNodes, maxDetect, minTasks, maxTasks, minDeadline, maxLinks, maxTime, maxStart}
+use Rattle.reader.specs.Entries.{nodes, tasks, task}
+use Rattle.reader.specs.Sound.{below}
+use Rattle.reader.specs.Number.{numberAt, valueFault}
+use Rattle.reader.specs.JobFile.{nodeSection, taskSection, linkSection, jobLength, nodeCount, taskCount, linkCount, nodesFault, runFault, taskFault, tasksFault, linkAt, linkFault, linkBefore, linksFault, tailFault, jobFault}
+use Rattle.reader.specs.PlanFile.{nodeFault, placeFault, placesFault, planLength, planFault}
+use Rattle.reader.proofs.FirstLaws.{or-else-l, or-else-r, unless-none, none-first}
+use Rattle.reader.proofs.FieldLaws.{Good, field-good}
+
+-- rows of width w from an offset on, each of which lies within the file
+pub rows-room : (at w n end : ℕ) → at ≤ end → ((i : ℕ) → i < n → at + i * w + w ≤ end) → at + n * w ≤ end
+rows-room at w zero end h rows = omega arith
+rows-room at w (suc n) end h rows = omega (arith, rows n (omega arith))
+
+-- a row of numbers
+pub fields-good : (s : List ℕ) (n : ℕ) (at : ℕ → ℕ) (low high : ℕ) → first n (λ i. valueFault s (at i) low high) ≡ none → (i : ℕ) → i < n →
+    Good s (at i) low high
+fields-good s n at low high e i p = field-good s (at i) low high (Value (at i)) (none-first n _ e i p)
+
+pub record GoodNodes (s : List ℕ) : Type 0 where
+  pub count : Good s nodeSection minNodes maxNodes
+  pub detect : (i : ℕ) → i < nodeCount s → Good s (8 + 4 * i) 0 maxDetect
+  pub room : taskSection (nodeCount s) ≤ length s
+
+pub nodes-good : (s : List ℕ) → nodesFault s ≡ none → GoodNodes s
+unfolding nodesFault
+nodes-good s e =
+    let count = field-good s nodeSection minNodes maxNodes (Count nodeSection) (or-else-l _ _ e) in
+    let detect = fields-good s (nodeCount s) (λ i. 8 + 4 * i) 0 maxDetect (or-else-r _ _ e) in
+    let room = rows-room 8 4 (nodeCount s) (length s) (count .room) (λ i p. omega (arith, detect i p .room)) in
+    record { count = count; detect = detect; room = omega arith }
+
+pub record GoodTask (s : List ℕ) (at p : ℕ) : Type 0 where
+  pub deadline : Good s at minDeadline maxTime
+  pub run : (i : ℕ) → i < p → Good s (at + 4 + 4 * i) 0 maxTime
+  pub room : at + (4 + 4 * p) ≤ length s
+
+pub task-good : (s : List ℕ) (at p : ℕ) → taskFault s at p ≡ none → GoodTask s at p
+unfolding taskFault runFault
+task-good s at p e =
+    let deadline = field-good s at minDeadline maxTime (Value at) (or-else-l _ _ e) in
+    let run = fields-good s p (λ i. at + 4 + 4 * i) 0 maxTime (or-else-r _ _ e) in
+    let room = rows-room (at + 4) 4 p (length s) (deadline .room) (λ i l. omega (arith, run i l .room)) in
+    record { deadline = deadline; run = run; room = omega arith }
+
+pub record GoodTasks (s : List ℕ) (at p : ℕ) : Type 0 where
+  pub count : Good s at minTasks maxTasks
+  pub task : (j : ℕ) → j < numberAt s at → GoodTask s (at + 4 + j * (4 + 4 * p)) p
+  pub room : at + 4 + numberAt s at * (4 + 4 * p) ≤ length s
+
+pub tasks-good : (s : List ℕ) (at p : ℕ) → tasksFault s at p ≡ none → GoodTasks s at p
+unfolding tasksFault
+tasks-good s at p e =
+    let count = field-good s at minTasks maxTasks (Count at) (or-else-l _ _ e) in
+    let each = none-first (numberAt s at) _ (or-else-r _ _ e) in
+    record {
+      count = count;
+      task = λ j l. task-good s _ p (each j l);
+      room = rows-room (at + 4) (4 + 4 * p) (numberAt s at) (length s) (count .room) (λ j l. task-good s _ p (each j l) .room);
+    }
+
+pub record GoodLink (s : List ℕ) (at n : ℕ) (before : Link) : Type 0 where
+  pub to : Good s (at + 4) (numberAt s at + 1) (n - 1)
+  pub delay : Good s (at + 8) 0 maxTime
+  pub order : below before (linkAt s at) ≡ true
+
+pub link-good : (s : List ℕ) (at n : ℕ) (before : Link) → linkFault s at n before ≡ none → GoodLink s at n before
+unfolding linkFault
+link-good s at n before e =
+    let behind = or-else-r _ _ e in
+    let last = or-else-r _ _ behind in
+    record {
+      to = field-good s (at + 4) (numberAt s at + 1) (n - 1) (Value (at + 4)) (or-else-l _ _ behind);
+      delay = field-good s (at + 8) 0 maxTime (Value (at + 8)) (or-else-l _ _ last);
+      order = unless-none _ _ (or-else-r _ _ last);
+    }
+
+pub record GoodLinks (s : List ℕ) (at n : ℕ) : Type 0 where
+  pub count : Good s at 0 maxLinks
+  pub link : (k : ℕ) → k < numberAt s at → GoodLink s (at + 4 + 12 * k) n (linkBefore s (at + 4) k)
+  pub room : at + 4 + 12 * numberAt s at ≤ length s
+
+pub links-good : (s : List ℕ) (at n : ℕ) → linksFault s at n ≡ none → GoodLinks s at n
+unfolding linksFault
+links-good s at n e =
+    let count = field-good s at 0 maxLinks (Count at) (or-else-l _ _ e) in
+    let each = none-first (numberAt s at) _ (or-else-r _ _ e) in
+    let room = rows-room (at + 4) 12 (numberAt s at) (length s) (count .room) (λ k l. omega (arith, link-good s _ n _ (each k l) .delay .room)) in
+    record { count = count; link = λ k l. link-good s _ n _ (each k l); room = omega arith }
+
+pub tail-most : (s : List ℕ) (end : ℕ) → tailFault s end ≡ none → length s ≤ end
+unfolding tailFault
+tail-most s end e = leb-true (length s) end (unless-none _ _ e)
+
+pub record GoodJob (s : List ℕ) : Type 0 where
+  pub version : Good s 0 fileVersion fileVersion
+  pub nodes : GoodNodes s
+  pub tasks : GoodTasks s (taskSection (nodeCount s)) (nodeCount s)
+  pub links : GoodLinks s (linkSection (nodeCount s) (taskCount s)) (taskCount s)
+  pub most : length s ≤ jobLength (nodeCount s) (taskCount s) (linkCount s)
+
+pub job-good : (s : List ℕ) → jobFault s ≡ none → GoodJob s
+unfolding jobFault
+job-good s e =
+    let n = or-else-r _ _ e in
+    let t = or-else-r _ _ n in
+    let l = or-else-r _ _ t in
+    record {
+      version = field-good s 0 fileVersion fileVersion (Version 0) (or-else-l _ _ e);
+      nodes = nodes-good s (or-else-l _ _ n);
+      tasks = tasks-good s (taskSection (nodeCount s)) (nodeCount s) (or-else-l _ _ t);
+      links = links-good s (linkSection (nodeCount s) (taskCount s)) (taskCount s) (or-else-l _ _ l);
+      most = tail-most s (jobLength (nodeCount s) (taskCount s) (linkCount s)) (or-else-r _ _ l);
+    }
+
+pub record GoodNode (s : List ℕ) (at p : ℕ) (run : List ℕ) : Type 0 where
+  pub number : Good s at 0 (p - 1)
+  pub able : 0 < getD run (numberAt s at) 0
+
+pub node-good : (s : List ℕ) (at p : ℕ) (run : List ℕ) → nodeFault s at p run ≡ none → GoodNode s at p run
+unfolding nodeFault
+node-good s at p run e =
+    record {
+      number = field-good s at 0 (p - 1) (Value at) (or-else-l _ _ e);
+      able = ltb-true 0 (getD run (numberAt s at) 0) (unless-none _ _ (or-else-r _ _ e));
+    }
+
+pub record GoodPlace (s : List ℕ) (at p : ℕ) (run : List ℕ) : Type 0 where
+  pub primary-node : GoodNode s at p run
+  pub primary-start : Good s (at + 4) 0 maxStart
+  pub backup-node : GoodNode s (at + 8) p run
+  pub backup-start : Good s (at + 12) 0 maxStart
+
+pub place-good : (s : List ℕ) (at p : ℕ) (run : List ℕ) → placeFault s at p run ≡ none → GoodPlace s at p run
+unfolding placeFault
+place-good s at p run e =
+    let b = or-else-r _ _ e in
+    let c = or-else-r _ _ b in
+    record {
+      primary-node = node-good s at p run (or-else-l _ _ e);
+      primary-start = field-good s (at + 4) 0 maxStart (Value (at + 4)) (or-else-l _ _ b);
+      backup-node = node-good s (at + 8) p run (or-else-l _ _ c);
+      backup-start = field-good s (at + 12) 0 maxStart (Value (at + 12)) (or-else-r _ _ c);
+    }
+
+pub record GoodPlan (s : List ℕ) (job : Job) : Type 0 where
+  pub version : Good s 0 fileVersion fileVersion
+  pub count : Good s 4 (tasks job) (tasks job)
+  pub place : (j : ℕ) → j < tasks job → GoodPlace s (8 + 16 * j) (nodes job) (task job j .run)
+  pub room : planLength (tasks job) ≤ length s
+  pub most : length s ≤ planLength (tasks job)
+
+pub plan-good : (s : List ℕ) (job : Job) → planFault s job ≡ none → GoodPlan s job
+unfolding planFault placesFault
+plan-good s job e =
+    let c = or-else-r _ _ e in
+    let l = or-else-r _ _ c in
+    let count = field-good s 4 (tasks job) (tasks job) (Count 4) (or-else-l _ _ c) in
+    let each = none-first (tasks job) _ (or-else-l _ _ l) in
+    let room = rows-room 8 16 (tasks job) (length s) (count .room) (λ j p. omega (arith, place-good s _ _ _ (each j p) .backup-start .room)) in
+    record {
+      version = field-good s 0 fileVersion fileVersion (Version 0) (or-else-l _ _ e);
+      count = count;
+      place = λ j p. place-good s _ _ _ (each j p);
+      room = omega arith;
+      most = tail-most s (planLength (tasks job)) (or-else-r _ _ l);
+    }

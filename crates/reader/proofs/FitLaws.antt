@@ -1,0 +1,162 @@
+-- Every refusal of reading and writing fits its bits in the result.
+use Prim.Native.Nat.{ℕ, zero, suc, _+_, _*_, _-_, _^_, _≤_, _<_}
+use native.Mathlib.Nat.{mul-le-mul-right}
+use native.Mathlib.Omega.{arith}
+use mathlib.Core.Path.{_≡_, refl}
+use mathlib.Core.Bool.{Bool, true, false}
+use mathlib.Core.List.{List}
+use mathlib.Core.Option.{Option, none, some}
+use lib.ListN.{length}
+use Rattle.reader.specs.declared.job.Link.{Link}
+use Rattle.reader.specs.declared.job.Job.{Job}
+use Rattle.reader.specs.declared.plan.Plan.{Plan}
+use Rattle.reader.specs.declared.refusal.Refusal.{Refusal}
+use Rattle.reader.specs.declared.refusal.Refusal.the-variants.{Short, Version, Count, Value, LinkOrder, Tail, Unable, ShortBuffer}
+use Rattle.reader.specs.First.{_or-else_, first, unless}
+use Rattle.reader.specs.Limits.{fileVersion, minNodes, maxNodes, maxDetect, minTasks, maxTasks, minDeadline, maxLinks, maxTime, maxStart}
+use Rattle.reader.specs.Entries.{tasks}
+use Rattle.reader.specs.Sound.{Sound}
+use Rattle.reader.specs.Refusals.{told, tell, Fits}
+use Rattle.reader.specs.Number.{numberAt, fieldFault, versionFault, countFault, valueFault}
+use Rattle.reader.specs.JobFile.{nodeSection, taskSection, linkSection, jobLength, nodeCount, taskCount, linkCount, nodesFault, runFault, taskFault, tasksFault, linkFault, linksFault, tailFault, jobFault, jobAt}
+use Rattle.reader.specs.PlanFile.{nodeFault, placeFault, placesFault, planLength, planFault}
+use Rattle.reader.specs.Write.{jobBytes, planBytes, roomFault, writeJobFault, writePlanFault}
+use Rattle.reader.proofs.TestLaws.{never}
+use Rattle.reader.proofs.FieldLaws.{field-good}
+use Rattle.reader.proofs.Accepted.{nodes-good, tasks-good, links-good}
+use Rattle.reader.proofs.Promise.{job-sound}
+use Rattle.reader.proofs.LengthLaws.{link-section-most, job-length-most, job-most, plan-most}
+
+-- a refusal, if there is one, fits
+abbrev pub FaultFits : Option Refusal → Type 0
+FaultFits o = (r : Refusal) → o ≡ some r → Fits (tell r)
+
+pub fits-none : FaultFits none
+fits-none r e = never (cc)
+
+pub fits-unless : (b : Bool) (r : Refusal) → Fits (tell r) → FaultFits (unless b r)
+unfolding unless
+fits-unless true r f = fits-none
+fits-unless false r f = λ q e. let same : r ≡ q = cc in rw (← same) f
+
+pub fits-or-else : (a b : Option Refusal) → FaultFits a → (a ≡ none → FaultFits b) → FaultFits (a or-else b)
+unfolding _or-else_
+fits-or-else none b f g = g refl
+fits-or-else (some r) b f g = f
+
+pub fits-first : (n : ℕ) (f : ℕ → Option Refusal) → ((i : ℕ) → i < n → FaultFits (f i)) → FaultFits (first n f)
+unfolding first
+fits-first zero f h = fits-none
+fits-first (suc n) f h = fits-or-else (first n f) (f n) (fits-first n f (λ i p. h i (omega arith))) (λ _. h n (omega arith))
+
+-- a refusal with one place, within a file
+pub fits-at : (n at : ℕ) → n < 2 ^ 8 → at < 2 ^ 32 → Fits (told n at 0)
+fits-at n at h k = record { number = h; first = k; second = omega arith }
+
+module _ (s : List ℕ) where
+  field-fits : (at low high : ℕ) (r : Refusal) → at < 2 ^ 32 → Fits (tell r) → FaultFits (fieldFault s at low high r)
+  unfolding fieldFault
+  field-fits at low high r h f = fits-or-else _ _ (fits-unless _ (Short at) (fits-at 1 at (omega arith) h)) (λ _. fits-unless _ r f)
+
+  count-fits : (at low high : ℕ) → at < 2 ^ 32 → FaultFits (countFault s at low high)
+  count-fits at low high h = field-fits at low high (Count at) h (fits-at 3 at (omega arith) h)
+
+  value-fits : (at low high : ℕ) → at < 2 ^ 32 → FaultFits (valueFault s at low high)
+  value-fits at low high h = field-fits at low high (Value at) h (fits-at 4 at (omega arith) h)
+
+  nodes-fit : FaultFits (nodesFault s)
+  unfolding nodesFault
+  nodes-fit =
+      fits-or-else _ _ (count-fits nodeSection minNodes maxNodes (omega arith)) (λ e.
+      let g = field-good s nodeSection minNodes maxNodes (Count nodeSection) e in
+      fits-first _ _ (λ i p. value-fits (8 + 4 * i) 0 maxDetect (omega arith)))
+
+  task-fits : (at p : ℕ) → at ≤ 2 ^ 16 → p ≤ maxNodes → FaultFits (taskFault s at p)
+  unfolding taskFault runFault
+  task-fits at p h m =
+      fits-or-else _ _ (value-fits at minDeadline maxTime (omega arith)) (λ _.
+      fits-first _ _ (λ i l. value-fits (at + 4 + 4 * i) 0 maxTime (omega arith)))
+
+  tasks-fit : (at p : ℕ) → at ≤ 2 ^ 10 → p ≤ maxNodes → FaultFits (tasksFault s at p)
+  unfolding tasksFault
+  tasks-fit at p h m =
+      fits-or-else _ _ (count-fits at minTasks maxTasks (omega arith)) (λ e.
+      let g = field-good s at minTasks maxTasks (Count at) e in
+      fits-first _ _ (λ j l. task-fits _ p (rows-most j (omega arith)) m))
+    where
+      rows-most : (j : ℕ) → j ≤ 64 → at + 4 + j * (4 + 4 * p) ≤ 2 ^ 16
+      rows-most j l = omega (arith, mul-le-mul-right (4 + 4 * p) l)
+
+  link-fits : (at n : ℕ) (before : Link) → at ≤ 2 ^ 16 → FaultFits (linkFault s at n before)
+  unfolding linkFault
+  link-fits at n before h =
+      fits-or-else _ _ (value-fits at 0 (n - 1) (omega arith)) (λ _.
+      fits-or-else _ _ (value-fits (at + 4) (numberAt s at + 1) (n - 1) (omega arith)) (λ _.
+      fits-or-else _ _ (value-fits (at + 8) 0 maxTime (omega arith)) (λ _.
+      fits-unless _ (LinkOrder at) (fits-at 5 at (omega arith) (omega arith)))))
+
+  links-fit : (at n : ℕ) → at ≤ 2 ^ 13 → FaultFits (linksFault s at n)
+  unfolding linksFault
+  links-fit at n h =
+      fits-or-else _ _ (count-fits at 0 maxLinks (omega arith)) (λ e.
+      let g = field-good s at 0 maxLinks (Count at) e in
+      fits-first _ _ (λ k l. link-fits _ n _ (omega arith)))
+
+  tail-fits : (end : ℕ) → end < 2 ^ 32 → FaultFits (tailFault s end)
+  unfolding tailFault
+  tail-fits end h = fits-unless _ (Tail end) (fits-at 6 end (omega arith) h)
+
+  node-fits : (at p : ℕ) (run : List ℕ) → at < 2 ^ 32 → FaultFits (nodeFault s at p run)
+  unfolding nodeFault
+  node-fits at p run h = fits-or-else _ _ (value-fits at 0 (p - 1) h) (λ _. fits-unless _ (Unable at) (fits-at 7 at (omega arith) h))
+
+  place-fits : (at p : ℕ) (run : List ℕ) → at ≤ 2 ^ 16 → FaultFits (placeFault s at p run)
+  unfolding placeFault
+  place-fits at p run h =
+      fits-or-else _ _ (node-fits at p run (omega arith)) (λ _.
+      fits-or-else _ _ (value-fits (at + 4) 0 maxStart (omega arith)) (λ _.
+      fits-or-else _ _ (node-fits (at + 8) p run (omega arith)) (λ _.
+      value-fits (at + 12) 0 maxStart (omega arith))))
+
+  room-fits : (n : ℕ) → n < 2 ^ 32 → FaultFits (roomFault s n)
+  unfolding roomFault
+  room-fits n h = fits-unless _ (ShortBuffer n) (fits-at 17 n (omega arith) h)
+
+  version-fits : FaultFits (versionFault s)
+  version-fits = field-fits 0 fileVersion fileVersion (Version 0) (omega arith) (fits-at 2 0 (omega arith) (omega arith))
+
+  pub job-fits : FaultFits (jobFault s)
+  unfolding jobFault
+  job-fits =
+      fits-or-else _ _ version-fits (λ _.
+      fits-or-else _ _ nodes-fit (λ en.
+      let p = nodes-good s en .count in
+      fits-or-else _ _ (tasks-fit (taskSection (nodeCount s)) (nodeCount s) (omega arith) (p .most)) (λ et.
+      let n = tasks-good s (taskSection (nodeCount s)) (nodeCount s) et .count in
+      let l = link-section-most (nodeCount s) (taskCount s) (p .most) (n .most) in
+      fits-or-else _ _ (links-fit (linkSection (nodeCount s) (taskCount s)) (taskCount s) (omega arith)) (λ el.
+      let m = links-good s (linkSection (nodeCount s) (taskCount s)) (taskCount s) el .count in
+      let e = job-length-most (nodeCount s) (taskCount s) (linkCount s) (p .most) (n .most) (m .most) in
+      tail-fits (jobLength (nodeCount s) (taskCount s) (linkCount s)) (omega (arith, e))))))
+
+  pub plan-fits : (job : Job) → Sound job → FaultFits (planFault s job)
+  unfolding planFault placesFault
+  plan-fits job h =
+      fits-or-else _ _ version-fits (λ _.
+      fits-or-else _ _ (count-fits 4 (tasks job) (tasks job) (omega arith)) (λ _.
+      fits-or-else _ _ (fits-first _ _ (λ j p. place-fits _ _ _ (omega (arith, h .tasks-most)))) (λ _.
+      tail-fits (planLength (tasks job)) (omega (arith, h .tasks-most)))))
+
+pub write-job-fits : (job : Job) (out : List ℕ) → FaultFits (writeJobFault job out)
+unfolding writeJobFault
+write-job-fits job out =
+    fits-or-else _ _ (job-fits (jobBytes job)) (λ e.
+    room-fits out (length (jobBytes job)) (omega (arith, job-most (jobBytes job) e)))
+
+pub write-plan-fits : (job : Job) (plan : Plan) (out : List ℕ) → FaultFits (writePlanFault job plan out)
+unfolding writePlanFault
+write-plan-fits job plan out =
+    fits-or-else _ _ (job-fits (jobBytes job)) (λ e.
+    let h = job-sound (jobBytes job) e in
+    fits-or-else _ _ (plan-fits (planBytes plan) (jobAt (jobBytes job)) h) (λ f.
+    room-fits out (length (planBytes plan)) (omega (arith, plan-most (planBytes plan) (jobAt (jobBytes job)) h f))))

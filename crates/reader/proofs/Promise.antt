@@ -1,0 +1,151 @@
+-- What reading promises: the job in a file without fault is sound, and so is a plan after its job.
+use Prim.Native.Nat.{ℕ, suc, _+_, _*_, _≤_, _<_}
+use native.Mathlib.Omega.{arith}
+use mathlib.Core.Path.{_≡_, sym, subst}
+use mathlib.Core.Bool.{true}
+use mathlib.Core.List.{List}
+use mathlib.Core.Option.{Option, none}
+use lib.ListN.{getD}
+use Rattle.reader.specs.declared.job.Task.{Task}
+use Rattle.reader.specs.declared.job.Link.{Link}
+use Rattle.reader.specs.declared.job.Job.{Job}
+use Rattle.reader.specs.declared.plan.Place.{Place}
+use Rattle.reader.specs.declared.refusal.Refusal.{Refusal}
+use Rattle.reader.specs.declared.refusal.Answer.the-variants.{Done}
+use Rattle.reader.specs.Limits.{minTasks, maxNodes, minDeadline, maxTime, maxStart}
+use Rattle.reader.specs.Entries.{nodes, tasks, task, link, place, emptyJob, emptyPlan}
+use Rattle.reader.specs.Sound.{below, Sound, PlanSound}
+use Rattle.reader.specs.JobFile.{nodeCount, taskCount, linkCount, taskAt, linkAt, linkBefore, jobFault, jobAt, unlessFault, readJob}
+use Rattle.reader.specs.PlanFile.{placeAt, planFault, planAt, readPlan}
+use Rattle.reader.proofs.RefusalLaws.{answered-done}
+use Rattle.reader.proofs.Accepted.{GoodTask, GoodLink, GoodJob, GoodPlace, GoodPlan, job-good, plan-good}
+use Rattle.reader.proofs.EntryLaws.{detect-at, run-at, task-at, link-at, place-at}
+
+pub none-value : {A : Type 0} (o : Option Refusal) (a b : A) → o ≡ none → unlessFault o a b ≡ a
+none-value o a b e = rw e
+
+-- what is promised of one task, of one link between n tasks, and of one place
+pub record SoundTask (p : ℕ) (t : Task) : Type 0 where
+  pub least : minDeadline ≤ t .deadline
+  pub most : t .deadline ≤ maxTime
+  pub run : (i : ℕ) → i < p → getD (t .run) i 0 ≤ maxTime
+
+task-sound : (s : List ℕ) (at p : ℕ) → p ≤ maxNodes → GoodTask s at p → SoundTask p (taskAt s at p)
+unfolding taskAt
+task-sound s at p m g = record {
+  least = g .deadline .least;
+  most = g .deadline .most;
+  run = λ i l. omega (arith, run-at s (at + 4) p i m l, g .run i l .most);
+}
+
+pub record SoundLink (n : ℕ) (l : Link) : Type 0 where
+  pub rise : l .from < l .to
+  pub into : l .to < n
+  pub delay : l .delay ≤ maxTime
+
+link-sound : (s : List ℕ) (at n : ℕ) (before : Link) → minTasks ≤ n → GoodLink s at n before → SoundLink n (linkAt s at)
+unfolding linkAt
+link-sound s at n before m g = record { rise = omega (arith, g .to); into = omega (arith, g .to); delay = g .delay .most }
+
+pub record SoundPlace (p : ℕ) (run : List ℕ) (x : Place) : Type 0 where
+  pub primary-node : x .«primary_node» < p
+  pub primary-able : 0 < getD run (x .«primary_node») 0
+  pub primary-start : x .«primary_start» ≤ maxStart
+  pub backup-node : x .«backup_node» < p
+  pub backup-able : 0 < getD run (x .«backup_node») 0
+  pub backup-start : x .«backup_start» ≤ maxStart
+
+place-sound : (s : List ℕ) (at p : ℕ) (run : List ℕ) → 0 < p → GoodPlace s at p run → SoundPlace p run (placeAt s at)
+unfolding placeAt
+place-sound s at p run m g = record {
+  primary-node = omega (arith, g .primary-node .number);
+  primary-able = g .primary-node .able;
+  primary-start = g .primary-start .most;
+  backup-node = omega (arith, g .backup-node .number);
+  backup-able = g .backup-node .able;
+  backup-start = g .backup-start .most;
+}
+
+module _ (s : List ℕ) (g : GoodJob s) where
+  tasks-sound : (j : ℕ) → j < taskCount s → SoundTask (nodeCount s) (task (jobAt s) j)
+  tasks-sound j p =
+      subst (λ t. SoundTask (nodeCount s) t) (sym (task-at s j (g .tasks .count .most) p))
+      (task-sound s _ (nodeCount s) (g .nodes .count .most) (g .tasks .task j p))
+
+  links-sound : (k : ℕ) → k < linkCount s → SoundLink (taskCount s) (link (jobAt s) k)
+  links-sound k p =
+      subst (λ l. SoundLink (taskCount s) l) (sym (link-at s k (g .links .count .most) p))
+      (link-sound s _ (taskCount s) _ (g .tasks .count .least) (g .links .link k p))
+
+  links-order : (k : ℕ) → suc k < linkCount s → below (link (jobAt s) k) (link (jobAt s) (suc k)) ≡ true
+  unfolding linkBefore
+  links-order k p =
+      rw (link-at s k (g .links .count .most) (omega arith), link-at s (suc k) (g .links .count .most) p)
+      (g .links .link (suc k) p .order)
+
+pub job-sound : (s : List ℕ) → jobFault s ≡ none → Sound (jobAt s)
+unfolding jobAt
+job-sound s e =
+    let g = job-good s e in
+    record {
+      version = omega (arith, g .version);
+      nodes-least = g .nodes .count .least;
+      nodes-most = g .nodes .count .most;
+      detect-most = λ i p. omega (arith, detect-at s i (g .nodes .count .most) p, g .nodes .detect i p .most);
+      tasks-least = g .tasks .count .least;
+      tasks-most = g .tasks .count .most;
+      deadline-least = λ j p. tasks-sound s g j p .least;
+      deadline-most = λ j p. tasks-sound s g j p .most;
+      run-most = λ j i p l. tasks-sound s g j p .run i l;
+      links-most = g .links .count .most;
+      rise = λ k p. links-sound s g k p .rise;
+      into = λ k p. links-sound s g k p .into;
+      delay-most = λ k p. links-sound s g k p .delay;
+      order = links-order s g;
+    }
+
+places-sound : (s : List ℕ) (job : Job) → Sound job → GoodPlan s job → (j : ℕ) → j < tasks job →
+    SoundPlace (nodes job) (task job j .run) (place (planAt s (tasks job)) j)
+places-sound s job h g j p =
+    subst (λ x. SoundPlace (nodes job) (task job j .run) x) (sym (place-at s (tasks job) j (h .tasks-most) p))
+    (place-sound s (8 + 16 * j) (nodes job) (task job j .run) (omega (arith, h .nodes-least)) (g .place j p))
+
+pub plan-sound : (s : List ℕ) (job : Job) → Sound job → planFault s job ≡ none → PlanSound job (planAt s (tasks job))
+unfolding planAt
+plan-sound s job h e =
+    let g = plan-good s job e in
+    record {
+      version = omega (arith, g .version);
+      count = omega (arith, g .count);
+      primary-node = λ j p. places-sound s job h g j p .primary-node;
+      primary-able = λ j p. places-sound s job h g j p .primary-able;
+      primary-start = λ j p. places-sound s job h g j p .primary-start;
+      backup-node = λ j p. places-sound s job h g j p .backup-node;
+      backup-able = λ j p. places-sound s job h g j p .backup-able;
+      backup-start = λ j p. places-sound s job h g j p .backup-start;
+    }
+
+-- the same of what the functions give
+pub record JobDone (s : List ℕ) : Type 0 where
+  pub fault : jobFault s ≡ none
+  pub job : readJob s .job ≡ jobAt s
+  pub sound : Sound (readJob s .job)
+
+pub job-done : (s : List ℕ) → readJob s .answer ≡ Done → JobDone s
+unfolding readJob
+job-done s d =
+    let e = answered-done (jobFault s) .0 d in
+    let j = none-value (jobFault s) (jobAt s) emptyJob e in
+    record { fault = e; job = j; sound = rw j (job-sound s e) }
+
+pub record PlanDone (s : List ℕ) (job : Job) : Type 0 where
+  pub fault : planFault s job ≡ none
+  pub plan : readPlan s job .plan ≡ planAt s (tasks job)
+  pub sound : PlanSound job (readPlan s job .plan)
+
+pub plan-done : (s : List ℕ) (job : Job) → Sound job → readPlan s job .answer ≡ Done → PlanDone s job
+unfolding readPlan
+plan-done s job h d =
+    let e = answered-done (planFault s job) .0 d in
+    let x = none-value (planFault s job) (planAt s (tasks job)) emptyPlan e in
+    record { fault = e; plan = x; sound = rw x (plan-sound s job h e) }

@@ -1,0 +1,57 @@
+-- The law of every loop that reads a section: its count, then its entries, which are not at fault and stand in the list.
+use Prim.Native.Nat.{ℕ, _+_, _≤_, _<_}
+use mathlib.Core.Path.{_≡_, refl, sym, ap, ap₂, _∙_}
+use mathlib.Core.List.{List}
+use mathlib.Core.Option.{Option, none, some}
+use lib.ListN.{set}
+use native.Mathlib.Omega.{arith}
+use Rattle.reader.specs.declared.refusal.Refusal.{Refusal}
+use Rattle.reader.specs.declared.refusal.Answer.{Answer}
+use Rattle.reader.specs.declared.refusal.Answer.the-variants.{Done, Refused}
+use Rattle.reader.specs.First.{_or-else_, first, fill}
+use Rattle.reader.specs.Reads.{Reads}
+use Rattle.reader.proofs.FirstLaws.{first-start, first-more, first-found}
+use Rattle.reader.proofs.FillLaws.{fill-none, fill-more}
+use Rattle.reader.proofs.Chain.{pass, stopped, finished}
+
+-- the count's fault, the count, each entry's fault and value, and the list that the loop starts with
+module _ {A : Type 0} (counted : Option Refusal) (n : ℕ) (fault : ℕ → Option Refusal) (value : ℕ → A) (empty : List A) where
+  -- the first i of k entries are read
+  pub record ReadTo (k i : ℕ) (list : List A) : Type 0 where
+    pub count-fine : counted ≡ none
+    pub count-is : k ≡ n
+    pub most : i ≤ k
+    pub clear : first i fault ≡ none
+    pub stored : list ≡ fill i value empty
+
+  pub read-start : (k : ℕ) → counted ≡ none → k ≡ n → ReadTo k 0 empty
+  read-start k fine is = record {
+    count-fine = fine;
+    count-is = is;
+    most = omega arith;
+    clear = first-start fault;
+    stored = fill-none value empty;
+  }
+
+  module _ (k i : ℕ) (list : List A) (inv : ReadTo k i list) where
+    pub read-more : (v : A) → i < k → fault i ≡ none → v ≡ value i → ReadTo k (i + 1) (set list i v)
+    read-more v below fine is = record {
+      count-fine = inv .count-fine;
+      count-is = inv .count-is;
+      most = omega arith;
+      clear = first-more fault i (inv .clear) fine;
+      stored = ap₂ (λ l x. set l i x) (inv .stored) is ∙ fill-more value empty i;
+    }
+
+    pub read-stop : {X : Type 0} {a : Answer} {r : Refusal} → i < k → fault i ≡ some r → a ≡ Refused r → Reads (counted or-else first n fault) a X
+    read-stop {X} {a} {r} below bad told =
+        let e : i < n = omega (arith, inv .count-is) in
+        stopped (pass _ (inv .count-fine) ∙ first-found fault n i r e (inv .clear) bad) told
+
+    pub read-done : k ≤ i → Reads (counted or-else first n fault) Done ((k ≡ n) × (list ≡ fill k value empty))
+    read-done all =
+        let e : i ≡ k = omega (arith, inv .most) in
+        finished
+        (pass _ (inv .count-fine) ∙ ap (λ m. first m fault) (sym (e ∙ inv .count-is)) ∙ inv .clear)
+        refl
+        (inv .count-is, inv .stored ∙ ap (λ m. fill m value empty) e)

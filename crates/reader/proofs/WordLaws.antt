@@ -1,0 +1,73 @@
+-- The numbers of a sound job, and of a sound plan, are 4-byte numbers.
+use Prim.Native.Nat.{ℕ, zero, suc, _^_, _≤_, _<_}
+use native.Mathlib.Omega.{arith}
+use mathlib.Core.List.{List, [], _∷_, _++_}
+use Rattle.reader.specs.declared.job.Job.{Job}
+use Rattle.reader.specs.declared.plan.Plan.{Plan}
+use Rattle.reader.specs.Entries.{nodes, tasks, links, link, place}
+use Rattle.reader.specs.Sound.{Sound, PlanSound}
+use Rattle.reader.specs.Write.{flat, nodeNumbers, taskNumbers, linkNumbers, placeNumbers, numbersOf, jobNumbers, planNumbers}
+use Rattle.reader.specs.Equality.{Words}
+
+words-none : Words []
+unfolding Words
+words-none k = omega arith
+
+words-more : (v : ℕ) (vs : List ℕ) → v < 2 ^ 32 → Words vs → Words (v ∷ vs)
+unfolding Words
+words-more v vs h w zero = h
+words-more v vs h w (suc k) = w k
+
+words-append : (vs ws : List ℕ) → Words vs → Words ws → Words (vs ++ ws)
+unfolding Words
+words-append [] ws a b k = b k
+words-append (v ∷ vs) ws a b zero = a 0
+words-append (v ∷ vs) ws a b (suc k) = words-append vs ws (λ i. a (suc i)) b k
+
+words-flat : (n : ℕ) (f : ℕ → List ℕ) → ((i : ℕ) → i < n → Words (f i)) → Words (flat n f)
+unfolding flat
+words-flat zero f h = words-none
+words-flat (suc n) f h = words-append (flat n f) (f n) (words-flat n f (λ i p. h i (omega arith))) (h n (omega arith))
+
+words-one : (v : ℕ) → v < 2 ^ 32 → Words (v ∷ [])
+words-one v h = words-more v [] h words-none
+
+module _ (job : Job) (h : Sound job) where
+  nodes-words : (i : ℕ) → i < nodes job → Words (nodeNumbers job i)
+  unfolding nodeNumbers
+  nodes-words i p = words-one _ (omega (arith, h .detect-most i p))
+
+  task-words : (p j : ℕ) → p ≤ nodes job → j < tasks job → Words (taskNumbers job p j)
+  unfolding taskNumbers
+  task-words p j m l =
+      words-more _ _ (omega (arith, h .deadline-most j l))
+      (words-flat p _ (λ i k. words-one _ (omega (arith, h .run-most j i l (omega arith)))))
+
+  link-words : (k : ℕ) → k < links job → Words (linkNumbers (link job k))
+  unfolding linkNumbers
+  link-words k p =
+      let r = h .rise k p in
+      let i = h .into k p in
+      words-more _ _ (omega (arith, h .tasks-most)) (words-more _ _ (omega (arith, h .tasks-most)) (words-one _ (omega (arith, h .delay-most k p))))
+
+  pub job-words : Words (jobNumbers job)
+  unfolding jobNumbers numbersOf
+  job-words =
+      words-more _ _ (omega (arith, h .version)) (words-more _ _ (omega (arith, h .nodes-most))
+      (words-append _ _ (words-flat _ _ (λ i p. nodes-words i (omega arith)))
+      (words-more _ _ (omega (arith, h .tasks-most))
+      (words-append _ _ (words-flat _ _ (λ j p. task-words _ j (omega arith) (omega arith)))
+      (words-more _ _ (omega (arith, h .links-most)) (words-flat _ _ (λ k p. link-words k (omega arith))))))))
+
+  place-words : (plan : Plan) → PlanSound job plan → (j : ℕ) → j < tasks job → Words (placeNumbers (place plan j))
+  unfolding placeNumbers
+  place-words plan g j p =
+      words-more _ _ (omega (arith, g .primary-node j p, h .nodes-most)) (words-more _ _ (omega (arith, g .primary-start j p))
+      (words-more _ _ (omega (arith, g .backup-node j p, h .nodes-most)) (words-one _ (omega (arith, g .backup-start j p)))))
+
+  pub plan-words : (plan : Plan) → PlanSound job plan → Words (planNumbers plan)
+  unfolding planNumbers
+  plan-words plan g =
+      let m = h .tasks-most in
+      words-more _ _ (omega (arith, g .version)) (words-more _ _ (omega (arith, g .count))
+      (words-flat _ _ (λ j p. place-words plan g j (omega (arith, g .count)))))

@@ -1,0 +1,12 @@
+pub mod Tests
+pub mod First
+pub mod Limits
+pub mod Entries
+pub mod Sound
+pub mod Refusals
+pub mod Number
+pub mod Reads
+pub mod JobFile
+pub mod PlanFile
+pub mod Write
+pub mod Equality

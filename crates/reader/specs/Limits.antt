@@ -1,0 +1,48 @@
+-- The limits of document 01, section 'Files'. The constants of `Job` and `Plan` have these values (`limits` in `proofs/`).
+use Prim.Native.Nat.{ℕ}
+
+-- 'version (1)'
+abbrev pub fileVersion : ℕ
+fileVersion = 1
+
+-- 'node count P (2 to 16)'
+abbrev pub minNodes : ℕ
+minNodes = 2
+
+abbrev pub maxNodes : ℕ
+maxNodes = 16
+
+-- 'per node its detect time (0 to 1,000)'
+abbrev pub maxDetect : ℕ
+maxDetect = 1_000
+
+-- 'task count N (1 to 64)'
+abbrev pub minTasks : ℕ
+minTasks = 1
+
+abbrev pub maxTasks : ℕ
+maxTasks = 64
+
+-- 'per task its deadline (1 to 1,000,000)'
+abbrev pub minDeadline : ℕ
+minDeadline = 1
+
+-- 'link count (0 to 512)'
+abbrev pub maxLinks : ℕ
+maxLinks = 512
+
+-- deadlines, run times and delays: '0 to 1,000,000'
+abbrev pub maxTime : ℕ
+maxTime = 1_000_000
+
+-- 'starts at most 1,000,000'
+abbrev pub maxStart : ℕ
+maxStart = 1_000_000
+
+-- 'the longest job has 10,576 bytes'
+abbrev pub maxJobLength : ℕ
+maxJobLength = 10_576
+
+-- 'the file has 8 + 16 × N bytes', N at most 64
+abbrev pub maxPlanLength : ℕ
+maxPlanLength = 1_032

@@ -1,0 +1,51 @@
+-- Numbers of a file: 'Each number is 4 bytes, unsigned, low byte first.'
+use Prim.Native.Nat.{ℕ, _+_, _*_, _/_, _%_}
+use mathlib.Core.List.{List, [], _∷_, _++_}
+use mathlib.Core.Option.{Option, none, some}
+use lib.ListN.{length, getD, take, drop}
+use lib.Dec.{leb}
+use Rattle.reader.specs.declared.refusal.Refusal.{Refusal}
+use Rattle.reader.specs.declared.refusal.Refusal.the-variants.{Short, Version, Count, Value}
+use Rattle.reader.specs.declared.number.Number.{Number}
+use Rattle.reader.specs.declared.number.Number.the-variants.{Is, Fault}
+use Rattle.reader.specs.Tests.{_and_}
+use Rattle.reader.specs.First.{_or-else_, unless}
+use Rattle.reader.specs.Limits.{fileVersion}
+
+-- the number whose first byte stands at an offset
+unfoldable pub numberAt : List ℕ → ℕ → ℕ
+numberAt s at = getD s at 0 + 256 * getD s (at + 1) 0 + 65536 * getD s (at + 2) 0 + 16777216 * getD s (at + 3) 0
+
+-- the bytes of a number
+abbrev pub bytes : ℕ → List ℕ
+bytes v = v % 256 ∷ v / 256 % 256 ∷ v / 65536 % 256 ∷ v / 16777216 % 256 ∷ []
+
+-- the buffer d with s written from an offset on
+unfoldable pub splice : List ℕ → ℕ → List ℕ → List ℕ
+splice d at s = take at d ++ (s ++ drop (at + length s) d)
+
+-- 1 where 'fewer than 4 bytes [are] left for a number'; else r where it is not from low to high
+unfoldable pub fieldFault : List ℕ → ℕ → ℕ → ℕ → Refusal → Option Refusal
+fieldFault s at low high r =
+    unless (leb (at + 4) (length s)) (Short at)
+    or-else unless (leb low (numberAt s at) and leb (numberAt s at) high) r
+
+-- 2, 'not 1'; 3, 'a section count outside its limits'; 4, 'any other number outside its limits'
+abbrev pub versionFault : List ℕ → Option Refusal
+versionFault s = fieldFault s 0 fileVersion fileVersion (Version 0)
+
+abbrev pub countFault : List ℕ → ℕ → ℕ → ℕ → Option Refusal
+countFault s at low high = fieldFault s at low high (Count at)
+
+abbrev pub valueFault : List ℕ → ℕ → ℕ → ℕ → Option Refusal
+valueFault s at low high = fieldFault s at low high (Value at)
+
+-- the answer for one number: its fault, or v
+unfoldable pub numbered : Option Refusal → ℕ → Number
+numbered none v = Is v
+numbered (some r) v = Fault r
+
+-- the fault that such an answer holds
+abbrev pub faultOf : Number → Option Refusal
+faultOf (Is v) = none
+faultOf (Fault r) = some r

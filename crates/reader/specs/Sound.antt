@@ -1,0 +1,41 @@
+-- What reading promises: of a job, and of a plan after its job. The crates above rest on these two records alone.
+use Prim.Native.Nat.{ℕ, suc, _≤_, _<_}
+use mathlib.Core.Path.{_≡_}
+use mathlib.Core.Bool.{Bool, true}
+use lib.Dec.{ltb, eqb}
+use Rattle.reader.specs.declared.job.Link.{Link}
+use Rattle.reader.specs.declared.job.Job.{Job}
+use Rattle.reader.specs.declared.plan.Plan.{Plan}
+use Rattle.reader.specs.Tests.{_and_, _or_}
+use Rattle.reader.specs.Limits.{fileVersion, minNodes, maxNodes, maxDetect, minTasks, maxTasks, minDeadline, maxLinks, maxTime, maxStart}
+use Rattle.reader.specs.Entries.{nodes, tasks, links, detect, deadline, run, link, place}
+
+-- 'links rise strictly by from, then to': l stands below m
+unfoldable pub below : Link → Link → Bool
+below l m = ltb (l .from) (m .from) or eqb (l .from) (m .from) and ltb (l .to) (m .to)
+
+pub record Sound (job : Job) : Type 0 where
+  pub version : job .version ≡ fileVersion
+  pub nodes-least : minNodes ≤ nodes job
+  pub nodes-most : nodes job ≤ maxNodes
+  pub detect-most : (n : ℕ) → n < nodes job → detect job n ≤ maxDetect
+  pub tasks-least : minTasks ≤ tasks job
+  pub tasks-most : tasks job ≤ maxTasks
+  pub deadline-least : (j : ℕ) → j < tasks job → minDeadline ≤ deadline job j
+  pub deadline-most : (j : ℕ) → j < tasks job → deadline job j ≤ maxTime
+  pub run-most : (j n : ℕ) → j < tasks job → n < nodes job → run job j n ≤ maxTime
+  pub links-most : links job ≤ maxLinks
+  pub rise : (k : ℕ) → k < links job → link job k .from < link job k .to
+  pub into : (k : ℕ) → k < links job → link job k .to < tasks job
+  pub delay-most : (k : ℕ) → k < links job → link job k .delay ≤ maxTime
+  pub order : (k : ℕ) → suc k < links job → below (link job k) (link job (suc k)) ≡ true
+
+pub record PlanSound (job : Job) (plan : Plan) : Type 0 where
+  pub version : plan .version ≡ fileVersion
+  pub count : plan .«task_count» ≡ tasks job
+  pub primary-node : (j : ℕ) → j < tasks job → place plan j .«primary_node» < nodes job
+  pub primary-able : (j : ℕ) → j < tasks job → 0 < run job j (place plan j .«primary_node»)
+  pub primary-start : (j : ℕ) → j < tasks job → place plan j .«primary_start» ≤ maxStart
+  pub backup-node : (j : ℕ) → j < tasks job → place plan j .«backup_node» < nodes job
+  pub backup-able : (j : ℕ) → j < tasks job → 0 < run job j (place plan j .«backup_node»)
+  pub backup-start : (j : ℕ) → j < tasks job → place plan j .«backup_start» ≤ maxStart

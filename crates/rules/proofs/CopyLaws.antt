@@ -1,0 +1,35 @@
+-- Laws of copies: what overlap says, and how long a delay can be.
+use Prim.Native.Nat.{ℕ, _≤_, _<_, max, min}
+use mathlib.Core.Bool.{true}
+use mathlib.Core.Path.{_≡_}
+use mathlib.Core.Logic.{_↔_}
+use lib.Dec.{eqb}
+use borrow.Author.Tests.{lt-ltb, ltb-true, eqb-true, eq-eqb}
+use native.Mathlib.Omega.{arith}
+use Rattle.reader.specs.declared.job.Job.{Job}
+use Rattle.reader.specs.declared.job.Link.{Link}
+use Rattle.reader.proofs.TestLaws.{split, and-l, and-r, and-i}
+use Rattle.rules.specs.declared.Copy.{Copy}
+use Rattle.rules.specs.Copies.{overlap, delay}
+
+-- 'It holds its node from its start up to, but not including, its finish.'
+abbrev pub HeldBy : Copy → ℕ → Type 0
+HeldBy c tick = (c .start ≤ tick) × (tick < c .finish)
+
+pub overlap-i : (c d : Copy) (tick : ℕ) → c .node ≡ d .node → HeldBy c tick → HeldBy d tick → overlap c d ≡ true
+unfolding overlap
+overlap-i c d tick e h g = and-i _ _ (eq-eqb _ _ e) (lt-ltb (max (c .start) (d .start)) (min (c .finish) (d .finish)) (omega arith))
+
+-- 'Two copies overlap if some tick is held by both', on one node
+pub overlap-is : (c d : Copy) → (overlap c d ≡ true) ↔ ((c .node ≡ d .node) × ((tick : ℕ) × HeldBy c tick × HeldBy d tick))
+unfolding overlap
+overlap-is c d = (
+  λ h.
+      let b = ltb-true (max (c .start) (d .start)) (min (c .finish) (d .finish)) (and-r _ _ h) in
+      (eqb-true _ _ (and-l _ _ h), (max (c .start) (d .start), (omega arith, omega arith), (omega arith, omega arith))),
+  λ w. overlap-i c d (w .1 .0) (w .0) (w .1 .1) (w .1 .2),
+)
+
+pub delay-le : (job : Job) (l : Link) (c d : Copy) → delay job l c d ≤ l .delay
+unfolding delay
+delay-le job l c d = split (eqb (c .node) (d .node)) (λ e. rw e (omega arith)) (λ e. rw e (omega arith))

@@ -1,0 +1,32 @@
+-- Copies of tasks: their times, when two of them overlap, and when a result arrives.
+use Prim.Native.Nat.{ℕ, _+_, max, min}
+use mathlib.Core.Bool.{Bool, cond}
+use lib.Dec.{leb, ltb, eqb}
+use Rattle.reader.specs.declared.job.Job.{Job}
+use Rattle.reader.specs.declared.job.Link.{Link}
+use Rattle.reader.specs.Tests.{_and_}
+use Rattle.reader.specs.Entries.{nodes, run}
+use Rattle.rules.specs.declared.Copy.{Copy}
+
+-- 'A copy of task j on node n takes the listed run time and finishes at start plus run time.'
+unfoldable pub copy : Job → ℕ → ℕ → ℕ → Copy
+copy job j n s = record { node = n; start = s; finish = s + run job j n }
+
+-- 'Two copies overlap if some tick is held by both.'
+unfoldable pub overlap : Copy → Copy → Bool
+overlap c d = eqb (c .node) (d .node) and ltb (max (c .start) (d .start)) (min (c .finish) (d .finish))
+
+-- 'The delay from a copy of i to a copy of j is 0 on one node, else the link's delay.'
+unfoldable pub delay : Job → Link → Copy → Copy → ℕ
+delay job l c d = cond (eqb (c .node) (d .node)) 0 (l .delay)
+
+-- c's finish plus the delay is at most d's start
+unfoldable pub inTime : Job → Link → Copy → Copy → Bool
+inTime job l c d = leb (c .finish + delay job l c d) (d .start)
+
+-- what one loss takes at once: the failure domain of node n, of so many. Each node is its own
+unfoldable pub domain : Job → ℕ → ℕ
+domain job n = n
+
+abbrev pub domains : Job → ℕ
+domains job = nodes job

@@ -1,0 +1,80 @@
+-- The planner: each copy at the first place, by finish and then by node, that keeps the rules against the copies already placed.
+use Prim.Native.Nat.{ℕ, zero, suc, _-_}
+use mathlib.Core.Bool.{Bool}
+use mathlib.Core.Option.{Option}
+use lib.Dec.{leb, ltb, eqb}
+use lib.ListN.{replicate}
+use Rattle.reader.specs.declared.job.Job.{Job}
+use Rattle.reader.specs.declared.plan.Place.{Place}
+use Rattle.reader.specs.declared.plan.Plan.{Plan}
+use Rattle.reader.specs.declared.refusal.Refusal.the-variants.{NoPrimary, NoBackup}
+use Rattle.reader.specs.Tests.{_and_, _implies_}
+use Rattle.reader.specs.First.{first, when, every, fill}
+use Rattle.reader.specs.Limits.{maxTasks}
+use Rattle.reader.specs.Entries.{nodes, tasks, links, deadline, run, link, noPlace}
+use Rattle.rules.specs.declared.Copy.{Copy}
+use Rattle.rules.specs.Tables.{put}
+use Rattle.rules.specs.Copies.{copy}
+use Rattle.rules.specs.Rules.{Row, row, blankRow, ruleA, ruleB, ruleD, ruleE, ruleF, ruleGPrimary, ruleGBackup}
+use Rattle.rules.specs.Attempts.{Attempt, placed, _>>=_, _or-refuse_}
+
+-- 'of all nodes and starts keeping [the rules], and finishing by the deadline, the earliest finish, then the lowest node.
+-- A node with run time 0 never counts.'
+unfoldable pub earliest : Job → ℕ → (Copy → Bool) → Option Copy
+earliest job j keeps =
+    first (suc (deadline job j)) λ t. first (nodes job) λ n.
+    let c = copy job j n (t - run job j n) in
+    when (ltb 0 (run job j n) and leb (run job j n) t and keeps c) c
+
+-- the primary p of task j keeps 'D and G against copies already placed'
+unfoldable pub primaryKeeps : Job → (ℕ → Row) → ℕ → Copy → Bool
+primaryKeeps job before j p =
+    every (links job) (λ k. let l = link job k in eqb (l .to) j implies ruleD job l (before (l .from)) p)
+    and every j (λ i. ruleGPrimary (before i) p)
+
+-- 'Then the backup, likewise under A to G': the row s of task j keeps them (C is the deadline of `earliest`)
+unfoldable pub backupKeeps : Job → (ℕ → Row) → ℕ → Row → Bool
+backupKeeps job before j s =
+    ruleA job s
+    and ruleB job s
+    and every (links job) (λ k. let l = link job k in eqb (l .to) j implies ruleE job l (before (l .from)) s)
+    and ruleF job s
+    and every j (λ i. ruleGBackup job (before i) s)
+
+-- 'First the primary'; 15 or 16 where there is no place
+unfoldable pub placeTask : Job → (ℕ → Row) → ℕ → Attempt Row
+placeTask job before j = do
+  p ← earliest job j (primaryKeeps job before j) or-refuse NoPrimary j
+  b ← earliest job j (λ b. backupKeeps job before j (row job before j p b)) or-refuse NoBackup j
+  placed (row job before j p b)
+
+-- 'Tasks go by number.'
+unfoldable pub placeTasks : Job → ℕ → Attempt (ℕ → Row)
+placeTasks job zero = placed (λ i. blankRow)
+placeTasks job (suc j) = do
+  before ← placeTasks job j
+  r ← placeTask job before j
+  placed (put before j r)
+
+-- the plan that has these rows
+unfoldable pub placeOf : Row → Place
+placeOf r =
+    record {
+      «primary_node» = r .primary .node;
+      «primary_start» = r .primary .start;
+      «backup_node» = r .backup .node;
+      «backup_start» = r .backup .start;
+    }
+
+unfoldable pub planOf : Job → (ℕ → Row) → Plan
+planOf job t =
+    record {
+      version = 1;
+      «task_count» = tasks job;
+      places = fill (tasks job) (λ j. placeOf (t j)) (replicate maxTasks noPlace);
+    }
+
+unfoldable pub planner : Job → Attempt Plan
+planner job = do
+  t ← placeTasks job (tasks job)
+  placed (planOf job t)
