@@ -6,8 +6,7 @@ use mathlib.Core.Path.{_≡_, sym, ap, _∙_, subst}
 use mathlib.Core.List.{List, [], _∷_, _++_}
 use lib.ListN.{length, drop, length-drop}
 use lib.Seq.{getD-drop, drop-drop}
-use Rattle.reader.specs.Number.{numberAt, bytes}
-use Rattle.reader.specs.Equality.{Bytes}
+use Rattle.reader.specs.Number.{numberAt, bytes, Bytes}
 
 -- four bytes make up the number they were taken from
 bytes-number : (v : ℕ) → v < 2 ^ 32 → v % 256 + 256 * (v / 256 % 256) + 65536 * (v / 65536 % 256) + 16777216 * (v / 16777216 % 256) ≡ v

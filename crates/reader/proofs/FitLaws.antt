@@ -1,4 +1,4 @@
--- Every refusal of reading and writing fits its bits in the result.
+-- Every refusal of reading fits its bits in the result.
 use Prim.Native.Nat.{ℕ, zero, suc, _+_, _*_, _-_, _^_, _≤_, _<_}
 use native.Mathlib.Nat.{mul-le-mul-right}
 use native.Mathlib.Omega.{arith}
@@ -9,9 +9,8 @@ use mathlib.Core.Option.{Option, none, some}
 use lib.ListN.{length}
 use Rattle.reader.specs.declared.job.Link.{Link}
 use Rattle.reader.specs.declared.job.Job.{Job}
-use Rattle.reader.specs.declared.plan.Plan.{Plan}
 use Rattle.reader.specs.declared.refusal.Refusal.{Refusal}
-use Rattle.reader.specs.declared.refusal.Refusal.the-variants.{Short, Version, Count, Value, LinkOrder, Tail, Unable, ShortBuffer}
+use Rattle.reader.specs.declared.refusal.Refusal.the-variants.{Short, Version, Count, Value, LinkOrder, Tail, Unable}
 use Rattle.reader.specs.First.{_or-else_, first, unless}
 use Rattle.reader.specs.Limits.{fileVersion, minNodes, maxNodes, maxDetect, minTasks, maxTasks, minDeadline, maxLinks, maxTime, maxStart}
 use Rattle.reader.specs.Entries.{tasks}
@@ -20,12 +19,10 @@ use Rattle.reader.specs.Refusals.{told, tell, Fits}
 use Rattle.reader.specs.Number.{numberAt, fieldFault, versionFault, countFault, valueFault}
 use Rattle.reader.specs.JobFile.{nodeSection, taskSection, linkSection, jobLength, nodeCount, taskCount, linkCount, nodesFault, runFault, taskFault, tasksFault, linkFault, linksFault, tailFault, jobFault, jobAt}
 use Rattle.reader.specs.PlanFile.{nodeFault, placeFault, placesFault, planLength, planFault}
-use Rattle.reader.specs.Write.{jobBytes, planBytes, roomFault, writeJobFault, writePlanFault}
 use Rattle.reader.proofs.TestLaws.{never}
 use Rattle.reader.proofs.FieldLaws.{field-good}
 use Rattle.reader.proofs.Accepted.{nodes-good, tasks-good, links-good}
-use Rattle.reader.proofs.Promise.{job-sound}
-use Rattle.reader.proofs.LengthLaws.{link-section-most, job-length-most, job-most, plan-most}
+use Rattle.reader.proofs.LengthLaws.{link-section-most, job-length-most}
 
 -- a refusal, if there is one, fits
 abbrev pub FaultFits : Option Refusal → Type 0
@@ -118,10 +115,6 @@ module _ (s : List ℕ) where
       fits-or-else _ _ (node-fits (at + 8) p run (omega arith)) (λ _.
       value-fits (at + 12) 0 maxStart (omega arith))))
 
-  room-fits : (n : ℕ) → n < 2 ^ 32 → FaultFits (roomFault s n)
-  unfolding roomFault
-  room-fits n h = fits-unless _ (ShortBuffer n) (fits-at 17 n (omega arith) h)
-
   version-fits : FaultFits (versionFault s)
   version-fits = field-fits 0 fileVersion fileVersion (Version 0) (omega arith) (fits-at 2 0 (omega arith) (omega arith))
 
@@ -146,17 +139,3 @@ module _ (s : List ℕ) where
       fits-or-else _ _ (count-fits 4 (tasks job) (tasks job) (omega arith)) (λ _.
       fits-or-else _ _ (fits-first _ _ (λ j p. place-fits _ _ _ (omega (arith, h .tasks-most)))) (λ _.
       tail-fits (planLength (tasks job)) (omega (arith, h .tasks-most)))))
-
-pub write-job-fits : (job : Job) (out : List ℕ) → FaultFits (writeJobFault job out)
-unfolding writeJobFault
-write-job-fits job out =
-    fits-or-else _ _ (job-fits (jobBytes job)) (λ e.
-    room-fits out (length (jobBytes job)) (omega (arith, job-most (jobBytes job) e)))
-
-pub write-plan-fits : (job : Job) (plan : Plan) (out : List ℕ) → FaultFits (writePlanFault job plan out)
-unfolding writePlanFault
-write-plan-fits job plan out =
-    fits-or-else _ _ (job-fits (jobBytes job)) (λ e.
-    let h = job-sound (jobBytes job) e in
-    fits-or-else _ _ (plan-fits (planBytes plan) (jobAt (jobBytes job)) h) (λ f.
-    room-fits out (length (planBytes plan)) (omega (arith, plan-most (planBytes plan) (jobAt (jobBytes job)) h f))))

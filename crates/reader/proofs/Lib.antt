@@ -17,14 +17,5 @@ pub mod PlanLaws
 pub mod LengthLaws
 pub mod EntryLaws
 pub mod Promise
-pub mod Segments
-pub mod FileNumbers
-pub mod SameNumbers
-pub mod RoundTrip
-pub mod ReadWrite
-pub mod WordLaws
-pub mod SoundReads
-pub mod SoundWrites
 pub mod PackingLaws
 pub mod FitLaws
-pub mod Samples

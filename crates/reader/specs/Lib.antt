@@ -8,5 +8,3 @@ pub mod Number
 pub mod Reads
 pub mod JobFile
 pub mod PlanFile
-pub mod Write
-pub mod Equality

@@ -1,5 +1,6 @@
--- The limits of document 01, section 'Files'. The constants of `Job` and `Plan` have these values (`limits` in `proofs/`).
+-- The limits of document 01, section 'Files'. The constants of `Job` and `Plan` have these values (`Limits::all`).
 use Prim.Native.Nat.{ℕ}
+use Rattle.reader.specs.declared.limits.Limits.{Limits}
 
 -- 'version (1)'
 abbrev pub fileVersion : ℕ
@@ -46,3 +47,21 @@ maxJobLength = 10_576
 -- 'the file has 8 + 16 × N bytes', N at most 64
 abbrev pub maxPlanLength : ℕ
 maxPlanLength = 1_032
+
+-- all of them, as the constants of the code give them
+abbrev pub limits : Limits
+limits = record {
+  «job_version» = fileVersion;
+  «min_nodes» = minNodes;
+  «max_nodes» = maxNodes;
+  «max_detect» = maxDetect;
+  «min_tasks» = minTasks;
+  «max_tasks» = maxTasks;
+  «min_deadline» = minDeadline;
+  «max_links» = maxLinks;
+  «max_time» = maxTime;
+  «max_job_length» = maxJobLength;
+  «plan_version» = fileVersion;
+  «max_start» = maxStart;
+  «max_plan_length» = maxPlanLength;
+}

@@ -1,8 +1,8 @@
 -- Numbers of a file: 'Each number is 4 bytes, unsigned, low byte first.'
-use Prim.Native.Nat.{ℕ, _+_, _*_, _/_, _%_}
-use mathlib.Core.List.{List, [], _∷_, _++_}
+use Prim.Native.Nat.{ℕ, _+_, _*_, _/_, _%_, _^_, _<_}
+use mathlib.Core.List.{List, [], _∷_}
 use mathlib.Core.Option.{Option, none, some}
-use lib.ListN.{length, getD, take, drop}
+use lib.ListN.{length, getD}
 use lib.Dec.{leb}
 use Rattle.reader.specs.declared.refusal.Refusal.{Refusal}
 use Rattle.reader.specs.declared.refusal.Refusal.the-variants.{Short, Version, Count, Value}
@@ -20,9 +20,12 @@ numberAt s at = getD s at 0 + 256 * getD s (at + 1) 0 + 65536 * getD s (at + 2) 
 abbrev pub bytes : ℕ → List ℕ
 bytes v = v % 256 ∷ v / 256 % 256 ∷ v / 65536 % 256 ∷ v / 16777216 % 256 ∷ []
 
--- the buffer d with s written from an offset on
-unfoldable pub splice : List ℕ → ℕ → List ℕ → List ℕ
-splice d at s = take at d ++ (s ++ drop (at + length s) d)
+-- a list of bytes, and one of 4-byte numbers: what every value of the code's types is
+unfoldable pub Bytes : List ℕ → Type 0
+Bytes s = (k : ℕ) → getD s k 0 < 256
+
+unfoldable pub Words : List ℕ → Type 0
+Words vs = (k : ℕ) → getD vs k 0 < 2 ^ 32
 
 -- 1 where 'fewer than 4 bytes [are] left for a number'; else r where it is not from low to high
 unfoldable pub fieldFault : List ℕ → ℕ → ℕ → ℕ → Refusal → Option Refusal

@@ -4,14 +4,10 @@ use mathlib.Core.Option.{Option, none, some}
 use Rattle.reader.specs.declared.refusal.Refusal.{Refusal}
 use Rattle.reader.specs.declared.refusal.Refusal.the-variants.{Short, Version, Count, Value, LinkOrder, Tail, Unable, SameNode, Early, Late, PrimaryUnfed, BackupUnfed, CommonLoss, Overlap, NoPrimary, NoBackup, ShortBuffer, NoSuchNode}
 use Rattle.reader.specs.declared.refusal.Answer.{Answer}
+pub use Rattle.reader.specs.declared.refusal.Told.{Told}
 use Rattle.reader.specs.declared.refusal.Answer.the-variants.{Done, Refused}
 
 -- a row of the table
-pub record Told : Type 0 where
-  pub number : ℕ
-  pub first : ℕ
-  pub second : ℕ
-
 abbrev pub told : ℕ → ℕ → ℕ → Told
 told n a b = record { number = n; first = a; second = b }
 

@@ -2,12 +2,12 @@
 use Prim.Native.Nat.{ℕ, zero, suc, _^_, _≤_, _<_}
 use native.Mathlib.Omega.{arith}
 use mathlib.Core.List.{List, [], _∷_, _++_}
 use Rattle.reader.specs.declared.job.Job.{Job}
 use Rattle.reader.specs.declared.plan.Plan.{Plan}
 use Rattle.reader.specs.Entries.{nodes, tasks, links, link, place}
 use Rattle.reader.specs.Sound.{Sound, PlanSound}
-use Rattle.reader.specs.Write.{flat, nodeNumbers, taskNumbers, linkNumbers, placeNumbers, numbersOf, jobNumbers, planNumbers}
-use Rattle.reader.specs.Equality.{Words}
+use Rattle.writer.specs.Write.{flat, nodeNumbers, taskNumbers, linkNumbers, placeNumbers, numbersOf, jobNumbers, planNumbers}
+use Rattle.reader.specs.Number.{Words}
 
 words-none : Words []
 unfolding Words

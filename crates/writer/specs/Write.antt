@@ -1,23 +1,27 @@
 -- Writing: the bytes of a job and of a plan, and what a writer does to a buffer.
-use Prim.Native.Nat.{ℕ, zero, suc, min}
+use Prim.Native.Nat.{ℕ, zero, suc, _+_, min}
 use mathlib.Core.List.{List, [], _∷_, _++_}
 use mathlib.Core.Option.{Option, none, some}
 use lib.Dec.{leb}
-use lib.ListN.{length, drop}
+use lib.ListN.{length, take, drop}
 use Rattle.reader.specs.declared.job.Job.{Job}
 use Rattle.reader.specs.declared.job.Link.{Link}
 use Rattle.reader.specs.declared.plan.Place.{Place}
 use Rattle.reader.specs.declared.plan.Plan.{Plan}
 use Rattle.reader.specs.declared.refusal.Refusal.{Refusal}
 use Rattle.reader.specs.declared.refusal.Refusal.the-variants.{ShortBuffer}
 use Rattle.reader.specs.declared.refusal.Answer.{Answer}
 use Rattle.reader.specs.First.{_or-else_, unless}
 use Rattle.reader.specs.Limits.{maxNodes, maxTasks, maxLinks}
 use Rattle.reader.specs.Entries.{nodes, tasks, links, detect, deadline, run, link, place}
 use Rattle.reader.specs.Number.{bytes}
 use Rattle.reader.specs.Refusals.{answered}
 use Rattle.reader.specs.JobFile.{jobFault, jobAt}
 use Rattle.reader.specs.PlanFile.{planFault}
+
+-- the buffer d with s written from an offset on
+unfoldable pub splice : List ℕ → ℕ → List ℕ → List ℕ
+splice d at s = take at d ++ (s ++ drop (at + length s) d)
 
 -- the bytes of a row of numbers
 unfoldable pub pack : List ℕ → List ℕ

@@ -6,15 +6,15 @@ use mathlib.Core.Path.{_≡_, refl, sym, ap, ap₂, _∙_}
 use mathlib.Core.List.{List, [], _∷_, _++_, append-assoc, append-nil}
 use lib.ListN.{length, getD, take, drop, length-append}
 use lib.Seq.{take-at, drop-at}
 use Rattle.reader.specs.declared.job.Link.{Link}
 use Rattle.reader.specs.declared.job.Job.{Job}
 use Rattle.reader.specs.declared.plan.Place.{Place}
 use Rattle.reader.specs.declared.plan.Plan.{Plan}
 use Rattle.reader.specs.Limits.{maxNodes, maxTasks, maxLinks}
 use Rattle.reader.specs.Entries.{nodes, tasks, links, link, place}
-use Rattle.reader.specs.Equality.{SameJob, SamePlan}
-use Rattle.reader.specs.Write.{flat, nodeNumbers, taskNumbers, linkNumbers, placeNumbers, numbersOf, jobNumbers, planNumbers}
+use Rattle.writer.specs.Equality.{SameJob, SamePlan}
+use Rattle.writer.specs.Write.{flat, nodeNumbers, taskNumbers, linkNumbers, placeNumbers, numbersOf, jobNumbers, planNumbers}
 use Rattle.reader.proofs.TestLaws.{below-suc}
 
 -- rows that are equal part by part
 record Parts (n : ℕ) (f g : ℕ → List ℕ) (x y : List ℕ) : Type 0 where

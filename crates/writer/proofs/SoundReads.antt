@@ -9,26 +9,26 @@ use mathlib.Core.Option.{none}
 use lib.Dec.{ltb}
 use lib.ListN.{length, length-append}
 use borrow.Author.Tests.{ltb-false, lt-ltb, eq-eqb}
 use Rattle.reader.specs.declared.job.Link.{Link}
 use Rattle.reader.specs.declared.job.Job.{Job}
 use Rattle.reader.specs.declared.plan.Place.{Place}
 use Rattle.reader.specs.declared.plan.Plan.{Plan}
 use Rattle.reader.specs.Limits.{fileVersion, maxDetect, minDeadline, maxTasks, maxTime}
 use Rattle.reader.specs.Entries.{noLink, nodes, tasks, links, task, run, link, place}
 use Rattle.reader.specs.Sound.{below, Sound, PlanSound}
 use Rattle.reader.specs.Number.{numberAt}
 use Rattle.reader.specs.JobFile.{taskSection, linkSection, jobLength, nodeCount, linkAt, linkBefore, jobFault}
 use Rattle.reader.specs.PlanFile.{placeAt, planFault}
-use Rattle.reader.specs.Write.{flat, nodeNumbers, taskNumbers, linkNumbers, placeNumbers, numbersOf, jobNumbers, jobBytes, planNumbers, planBytes}
+use Rattle.writer.specs.Write.{flat, nodeNumbers, taskNumbers, linkNumbers, placeNumbers, numbersOf, jobNumbers, jobBytes, planNumbers, planBytes}
 use Rattle.reader.proofs.TestLaws.{split, or-l, or-r, and-i}
 use Rattle.reader.proofs.FieldLaws.{Good}
 use Rattle.reader.proofs.Accepted.{GoodNodes, GoodTask, GoodTasks, GoodLink, GoodLinks, GoodJob, GoodPlace, GoodPlan}
 use Rattle.reader.proofs.Promise.{SoundTask, SoundLink, SoundPlace}
-use Rattle.reader.proofs.Segments.{Stands, stands-same, stands-split, stands-rows, stands-end, stands-at, pack-stands}
-use Rattle.reader.proofs.FileNumbers.{link-stands, place-stands, job-numbers}
-use Rattle.reader.proofs.SameNumbers.{link-same, place-same}
-use Rattle.reader.proofs.WordLaws.{job-words, plan-words}
+use Rattle.writer.proofs.Segments.{Stands, stands-same, stands-split, stands-rows, stands-end, stands-at, pack-stands}
+use Rattle.writer.proofs.FileNumbers.{link-stands, place-stands, job-numbers}
+use Rattle.writer.proofs.SameNumbers.{link-same, place-same}
+use Rattle.writer.proofs.WordLaws.{job-words, plan-words}
 use Rattle.reader.proofs.Faultless.{good-job, good-plan}
 
 -- the entries of a sound job and of a sound plan
 task-of : (job : Job) → Sound job → (j : ℕ) → j < tasks job → SoundTask (nodes job) (task job j)

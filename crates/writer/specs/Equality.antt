@@ -1,11 +1,9 @@
 -- 'Two jobs or plans are equal if version, counts and counted entries are; what a value holds beyond its counts is no part of it.'
-use Prim.Native.Nat.{ℕ, _^_, _<_}
-use mathlib.Core.List.{List}
+use Prim.Native.Nat.{ℕ, _<_}
 use mathlib.Core.Path.{_≡_}
-use lib.ListN.{getD}
 use Rattle.reader.specs.declared.job.Job.{Job}
 use Rattle.reader.specs.declared.plan.Plan.{Plan}
 use Rattle.reader.specs.Entries.{nodes, tasks, links, detect, deadline, run, link, place}
 
 pub record SameJob (a b : Job) : Type 0 where
   pub version : a .version ≡ b .version
@@ -21,10 +19,3 @@ pub record SamePlan (a b : Plan) : Type 0 where
   pub version : a .version ≡ b .version
   pub task-count : a .«task_count» ≡ b .«task_count»
   pub same-place : (j : ℕ) → j < a .«task_count» → place a j ≡ place b j
-
--- a list of bytes, and one of 4-byte numbers: what every value of the code's types is
-unfoldable pub Bytes : List ℕ → Type 0
-Bytes s = (k : ℕ) → getD s k 0 < 256
-
-unfoldable pub Words : List ℕ → Type 0
-Words vs = (k : ℕ) → getD vs k 0 < 2 ^ 32

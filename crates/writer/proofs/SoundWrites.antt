@@ -3,27 +3,28 @@ use mathlib.Core.Path.{_≡_, sym, ap, ap₂, _∙_}
 use mathlib.Core.List.{List}
 use lib.ListN.{length, getD, replicate}
 use Prim.Native.Nat.{ℕ, _≤_}
 use Rattle.reader.specs.declared.job.Job.{Job}
 use Rattle.reader.specs.declared.plan.Place.{Place}
 use Rattle.reader.specs.declared.plan.Plan.{Plan}
 use Rattle.reader.specs.declared.refusal.Answer.the-variants.{Done}
 use Rattle.reader.specs.First.{_or-else_, fill}
 use Rattle.reader.specs.Limits.{maxTasks}
 use Rattle.reader.specs.Entries.{tasks, noPlace}
 use Rattle.reader.specs.Sound.{Sound, PlanSound}
 use Rattle.reader.specs.JobFile.{jobAt, readJob}
 use Rattle.reader.specs.PlanFile.{planLength, placesAt, planAt, readPlan}
-use Rattle.reader.specs.Write.{jobBytes, planBytes, roomFault, writeJobFault, writePlanFault}
-use Rattle.reader.specs.Equality.{SamePlan, Bytes}
+use Rattle.writer.specs.Write.{jobBytes, planBytes, roomFault, writeJobFault, writePlanFault}
+use Rattle.writer.specs.Equality.{SamePlan}
+use Rattle.reader.specs.Number.{Bytes}
 use Rattle.reader.proofs.Accepted.{plan-good}
 use Rattle.reader.proofs.FillLaws.{fill-get, fill-same}
 use Rattle.reader.proofs.EntryLaws.{place-at}
 use Rattle.reader.proofs.LengthLaws.{plan-length}
 use Rattle.reader.proofs.Promise.{job-done}
-use Rattle.reader.proofs.RoundTrip.{job-written-back, plan-read-back}
-use Rattle.reader.proofs.WordLaws.{plan-words}
-use Rattle.reader.proofs.SoundReads.{sound-job-reads, sound-plan-reads}
-use Rattle.reader.proofs.ReadWrite.{PlanIn}
+use Rattle.writer.proofs.RoundTrip.{job-written-back, plan-read-back}
+use Rattle.writer.proofs.WordLaws.{plan-words}
+use Rattle.writer.proofs.SoundReads.{sound-job-reads, sound-plan-reads}
+use Rattle.writer.proofs.ReadWrite.{PlanIn}
 
 pub sound-job-written : (job : Job) (out : List ℕ) → Sound job → writeJobFault job out ≡ roomFault out (length (jobBytes job))
 unfolding writeJobFault _or-else_

@@ -6,18 +6,19 @@ use mathlib.Core.Option.{Option, none}
 use lib.ListN.{length, take, drop}
 use lib.Seq.{take-append-seam}
 use borrow.Author.Tests.{le-leb}
 use Rattle.reader.specs.declared.job.Job.{Job}
 use Rattle.reader.specs.declared.plan.Plan.{Plan}
 use Rattle.reader.specs.declared.refusal.Refusal.{Refusal}
 use Rattle.reader.specs.declared.refusal.Answer.the-variants.{Done}
 use Rattle.reader.specs.JobFile.{jobAt, readJob}
 use Rattle.reader.specs.PlanFile.{planFault, readPlan}
-use Rattle.reader.specs.Write.{jobNumbers, jobBytes, planNumbers, planBytes, roomFault, writeJobFault, writePlanFault, Written, writes, writeJob, writePlan}
-use Rattle.reader.specs.Equality.{SameJob, SamePlan, Bytes, Words}
+use Rattle.writer.specs.Write.{jobNumbers, jobBytes, planNumbers, planBytes, roomFault, writeJobFault, writePlanFault, Written, writes, writeJob, writePlan}
+use Rattle.writer.specs.Equality.{SameJob, SamePlan}
+use Rattle.reader.specs.Number.{Bytes, Words}
 use Rattle.reader.proofs.FirstLaws.{or-else-l, or-else-r, or-else-i, none-unless}
 use Rattle.reader.proofs.RefusalLaws.{answered-done}
 use Rattle.reader.proofs.Promise.{job-sound, job-done, plan-done}
-use Rattle.reader.proofs.RoundTrip.{job-written-back, plan-written-back, job-read-back, plan-read-back}
+use Rattle.writer.proofs.RoundTrip.{job-written-back, plan-written-back, job-read-back, plan-read-back}
 
 -- the whole of s written
 abbrev pub wrote : List ℕ → List ℕ → Written

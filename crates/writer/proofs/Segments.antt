@@ -5,11 +5,10 @@ use native.Mathlib.Omega.{arith}
 use mathlib.Core.Path.{_≡_, refl, sym, ap₂, _∙_}
 use mathlib.Core.List.{List, [], _∷_, _++_, append-assoc}
 use lib.ListN.{length, getD, drop, drop-of-length-le}
-use Rattle.reader.specs.Number.{numberAt, bytes}
-use Rattle.reader.specs.Write.{pack, flat}
-use Rattle.reader.specs.Equality.{Bytes, Words}
+use Rattle.reader.specs.Number.{numberAt, bytes, Bytes, Words}
+use Rattle.writer.specs.Write.{pack, flat}
 use Rattle.reader.proofs.TestLaws.{below-suc}
 use Rattle.reader.proofs.ByteLaws.{first-number, number-drop, bytes-at}
 
 -- from offset a up to b the file s holds the numbers vs
 unfoldable pub Stands : List ℕ → ℕ → List ℕ → ℕ → Type 0

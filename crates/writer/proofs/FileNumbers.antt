@@ -5,18 +5,18 @@ use native.Mathlib.Omega.{arith}
 use mathlib.Core.Path.{_≡_, refl, ap, _∙_}
 use mathlib.Core.List.{List, [], _∷_}
 use lib.ListN.{length, getD}
 use Rattle.reader.specs.declared.job.Job.{Job}
 use Rattle.reader.specs.Limits.{maxNodes, maxTasks, maxLinks}
 use Rattle.reader.specs.Entries.{nodes, tasks, links, link, task, place}
 use Rattle.reader.specs.Sound.{Sound}
 use Rattle.reader.specs.Number.{numberAt}
 use Rattle.reader.specs.JobFile.{taskSection, linkSection, jobLength, nodeCount, taskCount, linkCount, taskAt, linkAt, jobAt}
 use Rattle.reader.specs.PlanFile.{placeAt, planAt, planLength}
-use Rattle.reader.specs.Write.{flat, nodeNumbers, taskNumbers, linkNumbers, placeNumbers, numbersOf, jobNumbers, planNumbers}
+use Rattle.writer.specs.Write.{flat, nodeNumbers, taskNumbers, linkNumbers, placeNumbers, numbersOf, jobNumbers, planNumbers}
 use Rattle.reader.proofs.Accepted.{GoodJob, GoodPlan}
 use Rattle.reader.proofs.LengthLaws.{job-length, plan-length}
 use Rattle.reader.proofs.EntryLaws.{detect-at, run-at, task-at, link-at, place-at}
-use Rattle.reader.proofs.Segments.{Stands, stands-one, stands-two, stands-append, stands-flat}
+use Rattle.writer.proofs.Segments.{Stands, stands-one, stands-two, stands-append, stands-flat}
 
 -- the numbers of one entry, from the offset where it stands
 task-stands : (s : List ℕ) (job : Job) (j at p : ℕ) → p ≤ maxNodes → task job j ≡ taskAt s at p → Stands s at (taskNumbers job p j) (at + (4 + 4 * p))

@@ -4,19 +4,20 @@ use native.Mathlib.Omega.{arith}
 use mathlib.Core.Path.{_≡_}
 use mathlib.Core.List.{List}
 use mathlib.Core.Option.{none}
 use Rattle.reader.specs.declared.job.Job.{Job}
 use Rattle.reader.specs.declared.plan.Plan.{Plan}
 use Rattle.reader.specs.Entries.{tasks}
 use Rattle.reader.specs.Sound.{Sound}
 use Rattle.reader.specs.JobFile.{jobFault, jobAt}
 use Rattle.reader.specs.PlanFile.{planFault, planAt}
-use Rattle.reader.specs.Write.{jobNumbers, jobBytes, planNumbers, planBytes}
-use Rattle.reader.specs.Equality.{SameJob, SamePlan, Bytes, Words}
+use Rattle.writer.specs.Write.{jobNumbers, jobBytes, planNumbers, planBytes}
+use Rattle.writer.specs.Equality.{SameJob, SamePlan}
+use Rattle.reader.specs.Number.{Bytes, Words}
 use Rattle.reader.proofs.Accepted.{job-good, plan-good}
 use Rattle.reader.proofs.Promise.{job-sound, plan-sound}
-use Rattle.reader.proofs.Segments.{stands-same, stands-pack, pack-stands}
-use Rattle.reader.proofs.FileNumbers.{job-stands, plan-stands}
-use Rattle.reader.proofs.SameNumbers.{job-same, plan-same}
+use Rattle.writer.proofs.Segments.{stands-same, stands-pack, pack-stands}
+use Rattle.writer.proofs.FileNumbers.{job-stands, plan-stands}
+use Rattle.writer.proofs.SameNumbers.{job-same, plan-same}
 
 pub job-written-back : (s : List ℕ) → Bytes s → jobFault s ≡ none → jobBytes (jobAt s) ≡ s
 unfolding jobBytes

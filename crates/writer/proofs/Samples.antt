@@ -4,15 +4,16 @@ use mathlib.Core.Path.{_≡_, refl}
 use mathlib.Core.List.{List, [], _∷_, _++_}
 use mathlib.Core.Option.{none}
 use lib.ListN.{replicate}
 use Rattle.reader.specs.declared.refusal.Answer.{Answer}
 use Rattle.reader.specs.declared.refusal.Answer.the-variants.{Done, Refused}
 use Rattle.reader.specs.Tests.{_and_, _or_}
 use Rattle.reader.specs.First.{_or-else_, first, unless, fill}
 use Rattle.reader.specs.Sound.{below}
-use Rattle.reader.specs.Refusals.{Told, told, tell}
+use Rattle.reader.specs.declared.refusal.Told.{Told}
+use Rattle.reader.specs.Refusals.{told, tell}
 use Rattle.reader.specs.Number.{numberAt, fieldFault}
 use Rattle.reader.specs.JobFile.{nodesFault, nodesAt, runFault, runAt, taskFault, taskAt, tasksFault, tasksAt, linkAt, linkFault, linkBefore, linksFault, linksAt, tailFault, jobFault, jobAt, readJob}
-use Rattle.reader.specs.Write.{pack, flat, nodeNumbers, taskNumbers, linkNumbers, numbersOf, jobNumbers, jobBytes}
+use Rattle.writer.specs.Write.{pack, flat, nodeNumbers, taskNumbers, linkNumbers, numbersOf, jobNumbers, jobBytes}
 
 -- what is opened to compute a fault, and what to compute the bytes of the job in a file
 faults : Unit {0}

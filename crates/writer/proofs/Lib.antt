@@ -1,0 +1,13 @@
+pub mod PutLaws
+pub mod WriteLaws
+pub mod Segments
+pub mod FileNumbers
+pub mod SameNumbers
+pub mod RoundTrip
+pub mod ReadWrite
+pub mod WordLaws
+pub mod SoundReads
+pub mod SoundWrites
+pub mod WriteFits
+pub mod Samples
+pub mod WriteSamples

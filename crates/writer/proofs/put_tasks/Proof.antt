@@ -1,0 +1,35 @@
+-- `reader::writer::put_tasks` meets its contract.
+use Prim.Native.Nat.{_+_, _*_, _-_, _≤_}
+use mathlib.Core.Path.{_≡_}
+use mathlib.Core.List.{[], _∷_}
+use lib.ListN.{getD}
+use native.Mathlib.Omega.{arith}
+use borrow.Author.Needs.{needs}
+use Rattle.reader.specs.Limits.{maxNodes}
+use Rattle.reader.specs.Entries.{noTask}
+use Rattle.writer.specs.Write.{flat}
+use Rattle.writer.specs.Puts.{Rows}
+use Rattle.writer.proofs.PutLaws.{puts-then, rows-none, rows-more}
+use Rattle.writer.proofs.put_tasks.Statement.{statement}
+use Rattle.writer.proofs.put_tasks.Tie as tie
+
+abbrev Inv-loop : tie.InvT-loop
+Inv-loop d₀ from count nodes tasks at₀ i₀ d at i = (i ≤ count) × Rows (λ j. getD tasks j noTask .deadline ∷ flat nodes (λ i. getD (getD tasks j noTask .run) i 0 ∷ [])) (4 + 4 * maxNodes) d₀ from i d at
+
+abbrev μ-loop : tie.MeasureT-loop
+μ-loop d₀ from count nodes tasks at₀ i₀ d at i = count - i
+
+loop-holds : tie.Need-loop-holds Inv-loop μ-loop
+loop-holds c = (omega arith, rows-none _ _)
+
+loop-again : tie.Need-loop-again Inv-loop μ-loop
+loop-again c = (omega arith, rows-more (c .before .before .before .before .before .before .before .before .before .before .before .loop .inv .1) (puts-then (c .before .before .before .before .before .before .put .ensures) (c .before .before .put-run .ensures .puts)) (omega arith))
+
+returns : tie.Need-returns Inv-loop μ-loop
+returns c = let e : c .before .loop .i ≡ c .before .before .before .args .count = omega arith in rw e at (c .before .loop .inv .1)
+
+pub put-tasks-spec : {M : Type 1} → statement M
+put-tasks-spec =
+    tie.close
+    (tie.spec Inv-loop μ-loop loop-holds (λ c. search needs) (λ c. search needs) (λ c κs. search needs) (λ c κs. search needs) (λ c. search needs) (λ c. search needs) loop-again
+    (λ c. search needs) returns)
