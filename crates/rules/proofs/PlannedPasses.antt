@@ -8,6 +8,8 @@ use native.Mathlib.Omega.{arith}
 use Rattle.reader.specs.declared.job.Job.{Job}
 use Rattle.reader.specs.declared.plan.Plan.{Plan}
 use Rattle.reader.specs.declared.refusal.Answer.the-variants.{Done}
+use Rattle.reader.specs.declared.plan.Place.{Place}
+use Rattle.reader.specs.First.{fill}
 use Rattle.reader.specs.Limits.{maxTasks}
 use Rattle.reader.specs.Entries.{tasks, deadline, link, place, noPlace}
 use Rattle.reader.specs.Sound.{Sound, PlanSound}
@@ -151,6 +153,11 @@ module _ (job : Job) (sound : Sound job) where
         from-table λ t table e.
         let same = table .planned plan (λ j p. ap (λ plan. place plan j) (sym e) ∙ place-plan-of t j p) in
         judge-done job plan .1 (subst (Kept job) (sym same) (table-kept t (table .keeps)))
+
+    -- nothing stands behind the counted places
+    pub planned-places : (f : ℕ → Place) × (plan .places ≡ fill (tasks job) f (replicate maxTasks noPlace))
+    unfolding planOf
+    planned-places = from-table λ t table e. (λ j. placeOf (t j), ap (λ p. p .places) (sym e))
 
     pub planned-survives : (loss : Loss) → LossOf job loss → Survives job (rows job plan) loss (replay job plan loss)
     planned-survives = passed-survives job plan sound planned-sound planned-passes

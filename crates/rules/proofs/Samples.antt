@@ -16,7 +16,8 @@ use Rattle.reader.specs.Tests.{_and_, _or_, _implies_}
 use Rattle.reader.specs.First.{_or-else_, first, unless, when, every, any, fill}
 use Rattle.reader.specs.Limits.{maxNodes, maxTasks, maxLinks}
 use Rattle.reader.specs.Entries.{link, noNode, noLink, noPlace, blankTask}
-use Rattle.reader.specs.Refusals.{Told, told, tell}
+use Rattle.reader.specs.declared.refusal.Told.{Told}
+use Rattle.reader.specs.Refusals.{told, tell}
 use Rattle.rules.specs.declared.Loss.{Loss}
 use Rattle.rules.specs.declared.Loss.the-variants.{NoLoss, Lost}
 use Rattle.rules.specs.Tables.{put, grow}
