@@ -3,9 +3,9 @@ use Prim.Native.Nat.{ℕ, zero, suc, _+_, _≤_, _<_}
 use native.Mathlib.Numerals.{add-one}
 use native.Mathlib.Nat.{not-suc-le-zero}
 use native.Mathlib.Omega.{arith}
-use mathlib.Core.Path.{_≡_, refl, ap₂, _∙_}
+use mathlib.Core.Path.{_≡_, refl, ap, ap₂, sym, _∙_}
 use mathlib.Core.List.{List}
-use lib.ListN.{length, getD, set, length-set}
+use lib.ListN.{length, getD, set, replicate, length-set, length-replicate}
 use lib.Seq.{getD-set-same, getD-set-other}
 use Rattle.reader.specs.First.{fill}
 use Rattle.reader.proofs.TestLaws.{below-suc}
@@ -38,3 +38,13 @@ pub fill-same : {A : Type 0} (f g : ℕ → A) (l : List A) (n : ℕ) → ((i : 
 unfolding fill
 fill-same f g l zero h = refl
 fill-same f g l (suc n) h = ap₂ (λ x v. set x n v) (fill-same f g l n (λ i p. h i (omega arith))) (h n (omega arith))
+
+module _ {A : Type 0} (f : ℕ → A) where
+  -- one place more of a list that is filled from the front
+  pub filled-more : (l d : List A) (j : ℕ) (v : A) → d ≡ fill j f l → v ≡ f j → set d j v ≡ fill (j + 1) f l
+  filled-more l d j v e h = rw (e, h) (fill-more f l j)
+
+  -- and what stands in it
+  pub filled-at : (n : ℕ) (blank : A) (d : List A) (j i : ℕ) (z : A) → d ≡ fill j f (replicate n blank) → i < j → j ≤ n → getD d i z ≡ f i
+  filled-at n blank d j i z e p q =
+      ap (λ l. getD l i z) e ∙ fill-get f (replicate n blank) z j i p (rw (length-replicate n blank) q)

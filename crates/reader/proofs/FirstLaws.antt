@@ -9,7 +9,7 @@ use native.Mathlib.Omega.{arith}
 use native.Mathlib.Decide.{decLt}
 use Rattle.reader.specs.Tests.{_and_, _or_}
 use Rattle.reader.specs.First.{_or-else_, first, unless, when, isNone, every, any}
-use Rattle.reader.proofs.TestLaws.{split, clash, below-suc, not-e, not-i, not-x, not-true, and-i, and-l, and-r, same-test}
+use Rattle.reader.proofs.TestLaws.{split, clash, below-suc, not-e, not-i, not-x, not-true, and-i, and-l, and-r, and-yes, same-test}
 
 module _ {A : Type 0} where
   pub is-none-e : (o : Option A) → isNone o ≡ true → o ≡ none
@@ -224,3 +224,15 @@ every-both n t u =
     same-test _ _
     (λ h. every-i n _ (λ i p. and-i _ _ (every-e n t (and-l _ _ h) i p) (every-e n u (and-r _ _ h) i p)))
     (λ h. and-i _ _ (every-i n t (λ i p. and-l _ _ (every-e n (λ i. t i and u i) h i p))) (every-i n u (λ i p. and-r _ _ (every-e n (λ i. t i and u i) h i p))))
+
+module _ (t : ℕ → Bool) where
+  -- one place more, which passes
+  pub every-pass : (k : ℕ) → t k ≡ true → every (k + 1) t ≡ every k t
+  every-pass k e = every-more k t ∙ rw e (and-yes (every k t))
+
+  -- the places that are left pass
+  pub every-rest : (k n : ℕ) → k ≤ n → ((i : ℕ) → k ≤ i → i < n → t i ≡ true) → every k t ≡ every n t
+  every-rest k n p h =
+      split (every k t)
+      (λ e. e ∙ sym (every-i n t (λ i q. elim (decLt i k) [ yes s ↦ every-e k t e i s | no s ↦ h i (omega arith) q ])))
+      (λ e. e ∙ sym (not-true _ (λ g. clash (every k t) (every-i k t (λ i q. every-e n t g i (omega arith))) e)))

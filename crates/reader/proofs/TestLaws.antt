@@ -118,3 +118,11 @@ pub and-join : (a b c : Bool) → ((a and b) and c) ≡ (a and (b and c))
 unfolding _and_
 and-join true b c = refl
 and-join false b c = refl
+
+pub and-if : (a b : Bool) → a ≡ true → (a and b) ≡ b
+unfolding _and_
+and-if a b e = rw e
+
+pub and-unless : (a b : Bool) → a ≡ false → (a and b) ≡ false
+unfolding _and_
+and-unless a b e = rw e

@@ -28,6 +28,15 @@ splice-more [] (suc at) a b =
     (rw (take-all (suc (at + length a)) a (omega arith), drop-of-length-le a {i = suc (at + length a + length b)} (omega arith), append-nil))
 splice-more (x ∷ d) (suc at) a b = simp suc-add (ap (λ l. x ∷ l) (splice-more d at a b))
 
+-- the same at an offset that is known to be theirs
+pub splice-behind : (d s t : List ℕ) (at n : ℕ) → n ≡ at + length s → splice (splice d at s) n t ≡ splice d at (s ++ t)
+splice-behind d s t at n e = ap (λ k. splice (splice d at s) k t) e ∙ splice-more d at s t
+
+-- from the beginning
+pub splice-front : (d s : List ℕ) (n : ℕ) → length s ≡ n → splice d 0 s ≡ s ++ drop n d
+unfolding splice
+splice-front d s n e = ap (λ k. s ++ drop k d) (zero-add (length s) ∙ e)
+
 -- the front of a buffer that a whole file was put into
 pub take-splice : (d s : List ℕ) → take (length s) (splice d 0 s) ≡ s
 unfolding splice

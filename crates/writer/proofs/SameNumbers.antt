@@ -101,7 +101,7 @@ job-same a b hp hn hm e =
     }
 
 -- and equal jobs, or plans, have the same numbers
-flat-same : (n : ℕ) (f g : ℕ → List ℕ) → ((i : ℕ) → i < n → f i ≡ g i) → flat n f ≡ flat n g
+pub flat-same : (n : ℕ) (f g : ℕ → List ℕ) → ((i : ℕ) → i < n → f i ≡ g i) → flat n f ≡ flat n g
 unfolding flat
 flat-same zero f g h = refl
 flat-same (suc n) f g h = ap₂ (λ x y. x ++ y) (flat-same n f g (λ i p. h i (omega arith))) (h n (omega arith))

@@ -1,0 +1,206 @@
+-- Laws of clashes: the hot loop, what 0 says, and that it is rule G.
+use Prim.Native.Nat.{ℕ, zero, suc, _+_, _*_, _/_, _≤_, _<_, max, min}
+use mathlib.Core.Bool.{Bool, true, false, not}
+use mathlib.Core.Path.{_≡_, refl, sym, _∙_, ap, ap₂, subst}
+use lib.Bits.{bitAnd}
+use lib.Dec.{ltb, eqb}
+use lib.ListN.{getD}
+use borrow.Author.Tests.{eqb-true, eq-eqb, ne-eqb, ltb-true, lt-ltb, le-ltb}
+use native.Mathlib.Decide.{decLt}
+use native.Mathlib.Nat.{not-suc-le-zero}
+use native.Mathlib.Numerals.{add-one}
+use native.Mathlib.Omega.{arith}
+use Rattle.reader.specs.declared.job.Job.{Job}
+use Rattle.reader.specs.Limits.{maxNodes}
+use Rattle.reader.specs.Entries.{nodes}
+use Rattle.reader.specs.Tests.{_and_}
+use Rattle.reader.specs.First.{every, any}
+use Rattle.reader.proofs.TestLaws.{split, clash, below-suc, and-i, and-l, and-r, not-i, not-e, not-true, same-test}
+use Rattle.reader.proofs.FirstLaws.{every-i, every-e, every-x, every-same}
+use Rattle.rules.specs.declared.Copy.{Copy}
+use Rattle.rules.specs.Copies.{overlap, domains}
+use Rattle.rules.specs.Rules.{Row, shareFault, ruleGPrimary, ruleGBackup, ruleG}
+use Rattle.copies.specs.declared.table.Copies.{Copies}
+use Rattle.copies.specs.Sets.{has, meets, everyNode}
+use Rattle.copies.specs.Table.{entry, setAt, rowOf, Held}
+use Rattle.copies.specs.Clash.{clashes, free, boundOf, latest}
+use Rattle.reader.proofs.TestLaws.{and-yes, and-no}
+use Rattle.reader.proofs.FirstLaws.{every-both}
+use Rattle.copies.proofs.SetLaws.{meets-i, meets-any, has-every}
+
+-- one entry, by the tests that it passes, or the one that it fails
+module _ (m : ℕ) (c : Copy) (node start finish z : ℕ) where
+  abbrev its : Copy
+  its = record { node = node; start = start; finish = finish }
+
+  pub bound-hit : node ≡ c .node → meets z m ≡ true → ltb start (c .finish) ≡ true → ltb (c .start) finish ≡ true → finish ≡ boundOf m c its z
+  unfolding boundOf clashes _and_
+  bound-hit n s a b = rw (eq-eqb node (c .node) n, s, a, b)
+
+  bound-miss : (clashes m c its z ≡ true → ⊥) → 0 ≡ boundOf m c its z
+  unfolding boundOf
+  bound-miss h = rw (not-true _ h)
+
+  pub miss-node : (node ≡ c .node → ⊥) → 0 ≡ boundOf m c its z
+  unfolding clashes
+  miss-node h = bound-miss λ t. h (eqb-true node (c .node) (and-l _ _ t))
+
+  pub miss-set : meets z m ≡ false → 0 ≡ boundOf m c its z
+  unfolding clashes
+  miss-set h = bound-miss λ t. clash _ (and-l _ _ (and-r _ _ t)) h
+
+  pub miss-start : ltb start (c .finish) ≡ false → 0 ≡ boundOf m c its z
+  unfolding clashes
+  miss-start h = bound-miss λ t. clash _ (and-l _ _ (and-r _ _ (and-r _ _ t))) h
+
+  pub miss-finish : ltb (c .start) finish ≡ false → 0 ≡ boundOf m c its z
+  unfolding clashes
+  miss-finish h = bound-miss λ t. clash _ (and-r _ _ (and-r _ _ (and-r _ _ t))) h
+
+-- for the loop
+module _ (cs : Copies) (m : ℕ) (c : Copy) where
+  pub latest-start : 0 ≡ latest cs m c 0
+  unfolding latest
+  latest-start = refl
+
+  pub latest-more : (k at b r : ℕ) → at ≡ latest cs m c k → b ≡ boundOf m c (entry cs k) (setAt cs k) → r ≡ max at b → r ≡ latest cs m c (k + 1)
+  unfolding latest
+  latest-more k at b r h g e = rw add-one (e ∙ ap₂ max h g)
+
+  pub latest-done : (k n r : ℕ) → k ≡ n → r ≡ latest cs m c k → r ≡ latest cs m c n
+  latest-done k n r e h = subst (λ i. r ≡ latest cs m c i) e h
+
+-- an entry that clashes ends after the copy's start
+pub clash-ends : (m : ℕ) (c e : Copy) (z : ℕ) → clashes m c e z ≡ true → c .start < e .finish
+unfolding clashes
+clash-ends m c e z h = ltb-true (c .start) (e .finish) (and-r _ _ (and-r _ _ (and-r _ _ h)))
+
+module _ (cs : Copies) (m : ℕ) (c : Copy) where
+  abbrev clashesAt : ℕ → Bool
+  clashesAt k = clashes m c (entry cs k) (setAt cs k)
+
+  -- 0: nothing clashes
+  latest-none : (n : ℕ) → latest cs m c n ≡ 0 → (k : ℕ) → k < n → clashesAt k ≡ false
+  unfolding latest boundOf
+  latest-none zero h k p = absurd (not-suc-le-zero p)
+  latest-none (suc n) h k p =
+      split (clashesAt n)
+      (λ e. absurd (let z : ⊥ = omega (arith, clash-ends m c (entry cs n) (setAt cs n) e, rw e at h) in z))
+      (λ e. below-suc k n p (λ q. latest-none n (omega (arith, h)) k q) (λ q. rw q e))
+
+  -- else it is the finish of one that does
+  pub latest-some {ℓ} : {C : Type ℓ} (n : ℕ) → 0 < latest cs m c n → ((k : ℕ) → k < n → clashesAt k ≡ true → entry cs k .finish ≡ latest cs m c n → C) → C
+  unfolding latest boundOf
+  latest-some zero h go = absurd (not-suc-le-zero h)
+  latest-some (suc n) h go =
+      split (clashesAt n)
+      (λ e. elim (decLt (getD (cs .finish) n 0) (latest cs m c n)) [
+        | yes p ↦ latest-some n (omega arith) (λ k q f s. go k (omega arith) f (rw e (s ∙ omega arith)))
+        | no p ↦ go n (omega arith) e (rw e (omega arith))
+      ])
+      (λ e. latest-some n (let w : 0 < max (latest cs m c n) 0 = rw e at h in omega arith) (λ k q f s. go k (omega arith) f (rw e (s ∙ omega arith))))
+
+  -- 0 exactly if the copy is free of the first n entries
+  pub latest-free : (n : ℕ) → eqb (latest cs m c n) 0 ≡ free cs m c n
+  unfolding free
+  latest-free n =
+      same-test _ _
+      (λ h. every-i n _ (λ k p. not-i _ (latest-none n (eqb-true (latest cs m c n) 0 h) k p)))
+      (λ h. eq-eqb (latest cs m c n) 0 (none-left h (latest cs m c n) refl))
+    where
+      none-left : every n (λ k. not (clashesAt k)) ≡ true → (r : ℕ) → latest cs m c n ≡ r → r ≡ 0
+      none-left h zero e = refl
+      none-left h (suc r) e = latest-some n (omega arith) (λ k p f s. clash (clashesAt k) f (not-e _ (every-e n _ h k p)))
+
+-- two copies that last overlap exactly if each starts before the other's finish
+ticks : (a f s d : ℕ) → a < f → s < d → (ltb a d and ltb s f) ≡ ltb (max a s) (min f d)
+ticks a f s d p q =
+    same-test _ _
+    (λ h. let x = ltb-true a d (and-l _ _ h) in let y = ltb-true s f (and-r _ _ h) in lt-ltb (max a s) (min f d) (omega arith))
+    (λ h. let x = ltb-true (max a s) (min f d) h in and-i _ _ (lt-ltb a d (omega arith)) (lt-ltb s f (omega arith)))
+
+-- a test over pairs
+pairs : (j : ℕ) (t : ℕ → Bool) → every (2 * j) t ≡ every j (λ i. t (2 * i) and t (2 * i + 1))
+pairs j t =
+    same-test _ _
+    (λ h. every-i j _ (λ i p. and-i _ _ (every-e (2 * j) t h (2 * i) (omega arith)) (every-e (2 * j) t h (2 * i + 1) (omega arith))))
+    (λ h. every-i (2 * j) t (λ k p. half k p h))
+  where
+    half : (k : ℕ) → k < 2 * j → every j (λ i. t (2 * i) and t (2 * i + 1)) ≡ true → t k ≡ true
+    half k p h =
+        let e = every-e j (λ i. t (2 * i) and t (2 * i + 1)) h (k / 2) (omega arith) in
+        elim (decLt (2 * (k / 2)) k) [
+          | yes q ↦ let z : 2 * (k / 2) + 1 ≡ k = omega arith in subst (λ i. t i ≡ true) z (and-r _ _ e)
+          | no q ↦ let z : 2 * (k / 2) ≡ k = omega arith in subst (λ i. t i ≡ true) z (and-l _ _ e)
+        ]
+
+-- an entry clashes exactly if it overlaps and the sets meet
+clashes-is : (m : ℕ) (c e : Copy) (z : ℕ) → e .start < e .finish → c .start < c .finish → clashes m c e z ≡ (overlap e c and meets z m)
+unfolding clashes overlap _and_
+clashes-is m c e z p q =
+    split (eqb (e .node) (c .node))
+    (λ n. split (meets z m)
+    (λ s. rw (n, s) (ticks (e .start) (e .finish) (c .start) (c .finish) p q ∙ sym (and-yes _)))
+    (λ s. rw (n, s) (sym (and-no (ltb (max (e .start) (c .start)) (min (e .finish) (c .finish)))))))
+    (λ n. rw n)
+
+-- a copy of task j against the tasks before it
+module _ (job : Job) (cs : Copies) (j : ℕ) (few : nodes job ≤ maxNodes) (held : Held job j cs) (c : Copy) (lasts : c .start < c .finish) where
+  meets-only : (m k : ℕ) → k < 2 * j → meets (setAt cs k) m ≡ true → clashes m c (entry cs k) (setAt cs k) ≡ overlap (entry cs k) c
+  meets-only m k p s =
+      clashes-is m c (entry cs k) (setAt cs k) (held .lasts k p) lasts ∙ ap (λ b. overlap (entry cs k) c and b) s ∙ and-yes _
+
+  pub free-primary : free cs everyNode c (2 * j) ≡ every j (λ i. ruleGPrimary (rowOf cs i) c)
+  unfolding free ruleGPrimary rowOf
+  free-primary =
+      pairs j _ ∙ every-same j _ _ λ i p.
+      ap₂ (λ x y. not x and not y)
+      (meets-only everyNode (2 * i) (omega arith) (rw (held .primary-set i p) (meets-i everyNode everyNode 0 (has-every 0 (omega arith)) (has-every 0 (omega arith)))))
+      (meets-only everyNode (2 * i + 1) (omega arith) (meets-i _ everyNode (entry cs (2 * i) .node) (held .own i p) (has-every _ (omega (arith, held .node (2 * i) (omega arith))))))
+
+  -- of a backup, whose fault set holds `own`
+  module _ (m own : ℕ) (s : Row) (b : s .backup ≡ c) (is : has m ≡ s .faults) (at : own < nodes job) (here : has m own ≡ true) where
+    share-is : (i : ℕ) → i < j → meets (setAt cs (2 * i + 1)) m ≡ shareFault job (rowOf cs i) s
+    unfolding shareFault rowOf
+    share-is i p = subst (λ f. meets (setAt cs (2 * i + 1)) m ≡ any (nodes job) (λ q. has (setAt cs (2 * i + 1)) q and f q)) is (meets-any (nodes job) (setAt cs (2 * i + 1)) m (λ q. held .within i q p))
+
+    pub free-backup : free cs m c (2 * j) ≡ every j (λ i. ruleGBackup job (rowOf cs i) s)
+    unfolding free ruleGBackup rowOf
+    free-backup =
+        pairs j _ ∙ every-same j _ _ λ i p.
+        ap₂ (λ x y. not x and not y)
+        (meets-only m (2 * i) (omega arith) (rw (held .primary-set i p) (meets-i everyNode m own (has-every own (omega arith)) here)) ∙ ap (overlap (entry cs (2 * i))) (sym b))
+        (clashes-is m c (entry cs (2 * i + 1)) (setAt cs (2 * i + 1)) (held .lasts (2 * i + 1) (omega arith)) lasts ∙ ap₂ (λ x y. x and y) (ap (overlap (entry cs (2 * i + 1))) (sym b)) (share-is i p))
+
+-- both copies of task j: nothing before them clashes exactly if G holds between every earlier task and j
+module _ (job : Job) (cs : Copies) (j : ℕ) (few : nodes job ≤ maxNodes) (held : Held job (j + 1) cs) where
+  earlier : Held job j cs
+  earlier =
+      record {
+        node = λ k p. held .node k (omega arith);
+        lasts = λ k p. held .lasts k (omega arith);
+        ends = λ k p. held .ends k (omega arith);
+        primary-set = λ i p. held .primary-set i (omega arith);
+        own = λ i p. held .own i (omega arith);
+        within = λ i q p. held .within i q (omega arith);
+      }
+
+  -- the hot loop's answer for entry k, among the entries of the tasks before j
+  abbrev pub endOf : ℕ → ℕ
+  endOf k = latest cs (setAt cs k) (entry cs k) (2 * j)
+
+  pub pairs-free : (eqb (endOf (2 * j)) 0 and eqb (endOf (2 * j + 1)) 0) ≡ every j (λ i. ruleG job (rowOf cs i) (rowOf cs j))
+  unfolding rowOf ruleG
+  pairs-free = ap₂ (λ x y. x and y) primary backup ∙ every-both j _ _
+    where
+      primary : eqb (endOf (2 * j)) 0 ≡ every j (λ i. ruleGPrimary (rowOf cs i) (rowOf cs j .primary))
+      primary =
+          ap (λ m. eqb (latest cs m (entry cs (2 * j)) (2 * j)) 0) (held .primary-set j (omega arith))
+          ∙ latest-free cs everyNode (entry cs (2 * j)) (2 * j)
+          ∙ free-primary job cs j few earlier (entry cs (2 * j)) (held .lasts (2 * j) (omega arith))
+
+      backup : eqb (endOf (2 * j + 1)) 0 ≡ every j (λ i. ruleGBackup job (rowOf cs i) (rowOf cs j))
+      backup =
+          latest-free cs (setAt cs (2 * j + 1)) (entry cs (2 * j + 1)) (2 * j)
+          ∙ free-backup job cs j few earlier (entry cs (2 * j + 1)) (held .lasts (2 * j + 1) (omega arith)) (setAt cs (2 * j + 1))
+          (entry cs (2 * j) .node) (rowOf cs j) refl refl (held .node (2 * j) (omega arith)) (held .own j (omega arith))

@@ -1,0 +1,5 @@
+pub mod ListMore
+pub mod SetLaws
+pub mod ArrivalLaws
+pub mod TableLaws
+pub mod ClashLaws

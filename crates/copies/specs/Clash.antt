@@ -1,0 +1,27 @@
+-- When entries of the table clash with a copy, and the latest finish of those that do.
+use Prim.Native.Nat.{ℕ, zero, suc, max}
+use mathlib.Core.Bool.{Bool, not, cond}
+use lib.Dec.{ltb, eqb}
+use Rattle.reader.specs.Tests.{_and_}
+use Rattle.reader.specs.First.{every}
+use Rattle.rules.specs.declared.Copy.{Copy}
+use Rattle.copies.specs.declared.table.Copies.{Copies}
+use Rattle.copies.specs.Sets.{meets}
+use Rattle.copies.specs.Table.{entry, setAt}
+
+-- an entry e of set z clashes with a copy c of set m
+unfoldable pub clashes : ℕ → Copy → Copy → ℕ → Bool
+clashes m c e z = eqb (e .node) (c .node) and meets z m and ltb (e .start) (c .finish) and ltb (c .start) (e .finish)
+
+-- none of the first n entries clashes with c
+unfoldable pub free : Copies → ℕ → Copy → ℕ → Bool
+free cs m c n = every n λ k. not (clashes m c (entry cs k) (setAt cs k))
+
+-- the finish of an entry that clashes, else 0
+unfoldable pub boundOf : ℕ → Copy → Copy → ℕ → ℕ
+boundOf m c e z = cond (clashes m c e z) (e .finish) 0
+
+-- the greatest of the first n
+unfoldable pub latest : Copies → ℕ → Copy → ℕ → ℕ
+latest cs m c zero = 0
+latest cs m c (suc k) = max (latest cs m c k) (boundOf m c (entry cs k) (setAt cs k))

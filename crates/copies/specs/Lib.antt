@@ -1,0 +1,4 @@
+pub mod Sets
+pub mod Arrival
+pub mod Table
+pub mod Clash

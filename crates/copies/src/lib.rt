@@ -1,0 +1,5 @@
+// What judge, planner and replay share: the flat table of copies, sets as bits, arrival and clash tests.
+pub mod arrival;
+pub mod clash;
+pub mod sets;
+pub mod table;

@@ -1,0 +1,9 @@
+pub mod OrderLaws
+pub mod SenderLaws
+pub mod ListLaws
+pub mod LeapLaws
+pub mod BestLaws
+pub mod InputLaws
+pub mod FaultLaws
+pub mod KeepsLaws
+pub mod TaskLaws

@@ -1,0 +1,9 @@
+pub mod LinkOrder
+pub mod StateLaws
+pub mod InputLaws
+pub mod PairLaws
+pub mod ReadyLaws
+pub mod RunLaws
+pub mod PackLaws
+pub mod WriteLaws
+pub mod BytesSurvive

@@ -1,0 +1,189 @@
+-- The loop of replay: what is known after j tasks and k links.
+use Prim.Native.Nat.{ℕ, _+_, _≤_, _<_, max}
+use mathlib.Core.Bool.{Bool}
+use mathlib.Core.List.{List}
+use mathlib.Core.Path.{_≡_, refl, sym, _∙_, ap}
+use native.Mathlib.Omega.{arith}
+use lib.Dec.{leb, eqb}
+use lib.ListN.{getD, set, replicate}
+use borrow.Author.Tests.{eq-eqb, ne-eqb}
+use Rattle.reader.specs.declared.job.Job.{Job}
+use Rattle.reader.specs.declared.plan.Plan.{Plan}
+use Rattle.reader.specs.Tests.{_implies_}
+use Rattle.reader.specs.First.{fill}
+use Rattle.reader.specs.Limits.{maxTasks, maxStart}
+use Rattle.reader.specs.Entries.{tasks, links, link, place}
+use Rattle.reader.specs.Sound.{Sound, PlanSound}
+use Rattle.rules.specs.declared.Copy.{Copy}
+use Rattle.rules.specs.declared.Loss.{Loss}
+use Rattle.rules.specs.Rules.{Row, rows}
+use Rattle.rules.specs.Replay.{TaskRun, arrived, fed, runTask, replay}
+use Rattle.rules.proofs.FaultSetLaws.{runs-own}
+use Rattle.copies.specs.Arrival.{delayOf, Fits}
+use Rattle.replay.specs.declared.states.Pair.{Pair}
+use Rattle.replay.specs.declared.states.Outcome.{Outcome}
+use Rattle.replay.specs.declared.progress.Progress.{Progress}
+use Rattle.replay.specs.declared.Outcomes.{Outcomes}
+use Rattle.replay.specs.Inputs.{sentAt, sentFrom}
+use Rattle.replay.specs.States.{pairRow, runFrom, outcome}
+use Rattle.replay.specs.Outcomes.{replayed, noOutcome, outcomes}
+use Rattle.replay.specs.Progress.{zeros, started}
+use Rattle.reader.proofs.FirstLaws.{every-rest}
+use Rattle.reader.proofs.FillLaws.{filled-more, filled-at}
+use Rattle.replay.proofs.LinkOrder.{ahead}
+use Rattle.replay.proofs.InputLaws.{sent-arrives, sent-most}
+use Rattle.replay.proofs.PairLaws.{once-finished, run-pair, pair, primary-is, backup-is, detected-is, primary-ends, backup-ends, finish-most}
+use Rattle.replay.proofs.ReadyLaws.{Tested, tested-start, tested-more}
+
+-- the test of link m for task t: its result is there for copy c of t
+abbrev test : Job → (ℕ → Row) → (ℕ → TaskRun) → (ℕ → Copy) → ℕ → ℕ → Bool
+test job rowsOf runsOf c t m =
+    let l = link job m in
+    eqb (l .to) t implies arrived job l (rowsOf (l .from)) (runsOf (l .from)) (c t)
+
+-- ready times of the copies c, after k links
+abbrev pub Ready : Job → Plan → Loss → (ℕ → Copy) → ℕ → List ℕ → Type 0
+Ready job plan loss c k ready = Tested (λ t. c t .start) (test job (rows job plan) (replay job plan loss) c) k ready
+
+-- what is known after j tasks and k links
+pub record Upto (job : Job) (plan : Plan) (loss : Loss) (j k : ℕ) (r : Progress) : Type 0 where
+  pub within : j ≤ tasks job
+  pub links-within : k ≤ links job
+  pub of-is : r .of ≡ fill j (replayed job plan loss) (replicate maxTasks noOutcome)
+  pub at-is : r .at ≡ fill j (λ i. sentAt (replayed job plan loss i)) zeros
+  pub node-is : r .node ≡ fill j (λ i. sentFrom (replayed job plan loss i) (place plan i)) zeros
+  pub primary-ready : Ready job plan loss (λ t. rows job plan t .primary) k (r .primary)
+  pub backup-ready : Ready job plan loss (λ t. rows job plan t .backup) k (r .backup)
+
+pub task-fits : (job : Job) → Sound job → (j : ℕ) → j < tasks job → j < maxTasks
+task-fits job sound j p = omega (arith, sound .tasks-most)
+
+pub to-fits : (job : Job) → Sound job → (k : ℕ) → k < links job → link job k .to < maxTasks
+to-fits job sound k p = omega (arith, sound .into k p, sound .tasks-most)
+
+module _ (job : Job) (plan : Plan) (loss : Loss) (both : Sound job × PlanSound job plan) where
+  abbrev sound : Sound job
+  sound = both .0
+
+  abbrev T : ℕ → Row
+  T = rows job plan
+
+  abbrev R : ℕ → TaskRun
+  R = replay job plan loss
+
+  run-own : (j : ℕ) → j < tasks job → R j ≡ runTask job T loss R j
+  unfolding replay
+  run-own j p = runs-own job sound T loss j p
+
+  pub upto-start : (r : Progress) → r ≡ started → Upto job plan loss 0 0 r
+  unfolding fill
+  upto-start r e =
+      rw e
+      (record {
+        within = omega arith;
+        links-within = omega arith;
+        of-is = refl;
+        at-is = refl;
+        node-is = refl;
+        primary-ready = tested-start _ _;
+        backup-ready = tested-start _ _;
+      })
+
+  module _ (j k : ℕ) (r : Progress) (u : Upto job plan loss j k r) where
+    -- link k, whose sender is settled, is looked at
+    module _ (more : k < links job) (settled : link job k .from < j) where
+      abbrev i : ℕ
+      i = link job k .from
+
+      abbrev to : ℕ
+      to = link job k .to
+
+      i-below : i < tasks job
+      i-below = omega (arith, u .within)
+
+      at-is : getD (r .at) i 0 ≡ sentAt (replayed job plan loss i)
+      at-is = filled-at _ maxTasks 0 (r .at) j i 0 (u .at-is) settled (omega (arith, u .within, sound .tasks-most))
+
+      node-is : getD (r .node) i 0 ≡ sentFrom (replayed job plan loss i) (place plan i)
+      node-is = filled-at _ maxTasks 0 (r .node) j i 0 (u .node-is) settled (omega (arith, u .within, sound .tasks-most))
+
+      pub sent-fits : Fits (getD (r .at) i 0) (link job k .delay)
+      unfolding outcome
+      sent-fits =
+          let most = sent-most (replayed job plan loss i) (omega (arith, finish-most job plan both i i-below (R i))) in
+          rw at-is (omega (arith, most, sound .delay-most k more))
+
+      -- the ready time of the receiver, for the copies c
+      ready-more : (c : ℕ → Copy) (ready : List ℕ) (n v : ℕ) → Ready job plan loss c k ready → c to .node ≡ n → c to .start ≤ maxStart
+          → v ≡ max (getD ready to 0) (getD (r .at) i 0 + delayOf (link job k .delay) (getD (r .node) i 0) n)
+          → Ready job plan loss c (k + 1) (set ready to v)
+      unfolding _implies_
+      ready-more c ready n v h en starts e =
+          tested-more (λ t. c t .start) _ k to ready v _ (to-fits job sound k more) h e
+          (rw (at-is, node-is, ← en, eq-eqb to to refl)
+          (sent-arrives job (link job k) (T i) (place plan i) (R i) (c to)
+          (ap (λ c. c .node) (primary-is job plan both i i-below)) (ap (λ c. c .node) (backup-is job plan both i i-below))
+          (primary-ends job plan both i i-below .0) (backup-ends job plan both i i-below .0)
+          (once-finished job T loss R i (R i) (run-own i i-below)) starts))
+          (λ t away. rw (ne-eqb to t away))
+
+      pub upto-sent : (a b : ℕ)
+          → a ≡ max (getD (r .primary) to 0) (getD (r .at) i 0 + delayOf (link job k .delay) (getD (r .node) i 0) (place plan to .«primary_node»))
+          → b ≡ max (getD (r .backup) to 0) (getD (r .at) i 0 + delayOf (link job k .delay) (getD (r .node) i 0) (place plan to .«backup_node»))
+          → Upto job plan loss j (k + 1) (record { of = r .of; at = r .at; node = r .node; primary = set (r .primary) to a; backup = set (r .backup) to b })
+      upto-sent a b ea eb =
+          let below = sound .into k more in
+          let p = primary-is job plan both to below in
+          let q = backup-is job plan both to below in
+          record {
+            within = u .within;
+            links-within = omega arith;
+            of-is = u .of-is;
+            at-is = u .at-is;
+            node-is = u .node-is;
+            primary-ready = ready-more (λ t. T t .primary) (r .primary) _ a (u .primary-ready) (ap (λ c. c .node) p) (rw p (both .1 .primary-start to below)) ea;
+            backup-ready = ready-more (λ t. T t .backup) (r .backup) _ b (u .backup-ready) (ap (λ c. c .node) q) (rw q (both .1 .backup-start to below)) eb;
+          }
+
+    -- task j is settled: no link is left that could feed it
+    module _ (below : j < tasks job) (left : k < links job → j ≤ link job k .from) where
+      fed-is : (c : ℕ → Copy) (ready : List ℕ) (s : ℕ) → Ready job plan loss c k ready → c j .start ≡ s → leb (getD ready j 0) s ≡ fed job T R j (c j)
+      unfolding fed _implies_
+      fed-is c ready s h e =
+          ap (λ s. leb (getD ready j 0) s) (sym e)
+          ∙ h .is j (omega (arith, sound .tasks-most))
+          ∙ every-rest (test job T R c j) k (links job) (u .links-within) λ m p q.
+          rw (ne-eqb (link job m .to) j (λ e. omega (arith, ahead job sound j k m (left (omega arith)) p q, sound .rise m q)))
+
+      -- what `settle` tells
+      told : (x : Pair) (o : Outcome) → x ≡ pair job plan both j
+          → o ≡ outcome (pairRow x) (runFrom job loss (getD (r .primary) j 0) (getD (r .backup) j 0) x) → o ≡ replayed job plan loss j
+      told x o ex eo =
+          let p = primary-is job plan both j below in
+          let b = backup-is job plan both j below in
+          eo
+          ∙ ap (λ x. outcome (pairRow x) (runFrom job loss (getD (r .primary) j 0) (getD (r .backup) j 0) x)) ex
+          ∙ run-pair job T loss R j (pair job plan both j) _ _ p b (detected-is job plan both j below)
+          (fed-is (λ t. T t .primary) (r .primary) _ (u .primary-ready) (ap (λ c. c .start) p))
+          (fed-is (λ t. T t .backup) (r .backup) _ (u .backup-ready) (ap (λ c. c .start) b))
+          ∙ ap (λ x. outcome (T j) x) (sym (run-own j below))
+
+      pub upto-settled : (x : Pair) (o : Outcome) (a n : ℕ) → x ≡ pair job plan both j
+          → o ≡ outcome (pairRow x) (runFrom job loss (getD (r .primary) j 0) (getD (r .backup) j 0) x)
+          → a ≡ sentAt o → n ≡ sentFrom o (place plan j)
+          → Upto job plan loss (j + 1) k (record { of = set (r .of) j o; at = set (r .at) j a; node = set (r .node) j n; primary = r .primary; backup = r .backup })
+      upto-settled x o a n ex eo ea en =
+          let is = told x o ex eo in
+          record {
+            within = omega arith;
+            links-within = u .links-within;
+            of-is = filled-more _ _ (r .of) j o (u .of-is) is;
+            at-is = filled-more _ _ (r .at) j a (u .at-is) (ea ∙ ap sentAt is);
+            node-is = filled-more _ _ (r .node) j n (u .node-is) (en ∙ ap (λ o. sentFrom o (place plan j)) is);
+            primary-ready = u .primary-ready;
+            backup-ready = u .backup-ready;
+          }
+
+    pub upto-done : j ≡ tasks job → _≡_ {A = Outcomes} (record { of = r .of }) (outcomes job plan loss)
+    unfolding outcomes
+    upto-done e = rw (u .of-is, e)

@@ -1,0 +1,5 @@
+pub mod Inputs
+pub mod States
+pub mod Outcomes
+pub mod Progress
+pub mod Survival

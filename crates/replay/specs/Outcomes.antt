@@ -1,0 +1,38 @@
+-- What replay tells of a job and a plan: three numbers for each task, and their bytes.
+use Prim.Native.Nat.{ℕ}
+use mathlib.Core.List.{List, [], _∷_}
+use lib.ListN.{getD, replicate}
+use Rattle.reader.specs.declared.job.Job.{Job}
+use Rattle.reader.specs.declared.plan.Plan.{Plan}
+use Rattle.reader.specs.First.{fill}
+use Rattle.reader.specs.Limits.{maxTasks}
+use Rattle.reader.specs.Entries.{tasks}
+use Rattle.writer.specs.Write.{pack, flat}
+use Rattle.rules.specs.declared.Loss.{Loss}
+use Rattle.rules.specs.Rules.{rows}
+use Rattle.rules.specs.Replay.{replay}
+use Rattle.replay.specs.declared.Outcomes.{Outcomes}
+use Rattle.replay.specs.declared.states.Outcome.{Outcome}
+use Rattle.replay.specs.States.{outcome}
+
+-- the numbers of task j
+abbrev pub replayed : Job → Plan → Loss → ℕ → Outcome
+replayed job plan loss j = outcome (rows job plan j) (replay job plan loss j)
+
+abbrev pub noOutcome : Outcome
+noOutcome = record { primary = 0; backup = 0; finish = 0 }
+
+-- those of every task of the job
+unfoldable pub outcomes : Job → Plan → Loss → Outcomes
+outcomes job plan loss = record { of = fill (tasks job) (replayed job plan loss) (replicate maxTasks noOutcome) }
+
+abbrev pub numbers : Outcome → List ℕ
+numbers o = o .primary ∷ o .backup ∷ o .finish ∷ []
+
+-- the bytes of the first n of them
+unfoldable pub outcomeBytes : Outcomes → ℕ → List ℕ
+outcomeBytes o n = pack (flat n (λ j. numbers (getD (o .of) j noOutcome)))
+
+-- the bytes that replay writes
+unfoldable pub replayBytes : Job → Plan → Loss → List ℕ
+replayBytes job plan loss = pack (flat (tasks job) (λ j. numbers (replayed job plan loss j)))
