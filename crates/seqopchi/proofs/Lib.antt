@@ -1,0 +1,2 @@
+pub mod PlannedFiles
+pub mod PlanLaws

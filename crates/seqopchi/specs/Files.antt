@@ -1,0 +1,45 @@
+-- What the console's calls give, for any bytes: the first refusal in the order of document 01, and the buffer afterwards.
+use Prim.Native.Nat.{ℕ}
+use mathlib.Core.List.{List}
+use mathlib.Core.Option.{Option, none, some}
+use Rattle.reader.specs.declared.plan.Plan.{Plan}
+use Rattle.reader.specs.declared.refusal.Refusal.{Refusal}
+use Rattle.reader.specs.First.{_or-else_}
+use Rattle.reader.specs.Entries.{tasks, emptyPlan}
+use Rattle.reader.specs.JobFile.{jobFault, jobAt}
+use Rattle.reader.specs.PlanFile.{planLength, planFault, planAt}
+use Rattle.writer.specs.Write.{planBytes, roomFault, Written, writes}
+use Rattle.rules.specs.Rules.{rows}
+use Rattle.rules.specs.Judge.{breach}
+use Rattle.rules.specs.Attempts.{Attempt, refused, placed}
+use Rattle.rules.specs.Planner.{planner}
+
+-- the plan of a plan file after a job file
+abbrev pub planIn : List ℕ → List ℕ → Plan
+planIn job plan = planAt plan (tasks (jobAt job))
+
+-- 'The judge reads job, plan, then tries 8 to 14 in turn'
+unfoldable pub judgeFiles : List ℕ → List ℕ → Option Refusal
+judgeFiles job plan =
+    jobFault job
+    or-else planFault plan (jobAt job)
+    or-else breach (jobAt job) (rows (jobAt job) (planIn job plan))
+
+-- what an attempt was refused, and what it placed
+abbrev pub refusalOf : {A : Type 0} → Attempt A → Option Refusal
+refusalOf (refused r) = some r
+refusalOf (placed a) = none
+
+abbrev pub planOr : Attempt Plan → Plan
+planOr (refused r) = emptyPlan
+planOr (placed p) = p
+
+-- 'The planner reads the job, then 17 (8 + 16 × N bytes), then plans.'
+unfoldable pub planFileFault : List ℕ → List ℕ → Option Refusal
+planFileFault job out =
+    jobFault job
+    or-else roomFault out (planLength (tasks (jobAt job)))
+    or-else refusalOf (planner (jobAt job))
+
+unfoldable pub planFile : List ℕ → List ℕ → Written
+planFile job out = writes (planFileFault job out) (planBytes (planOr (planner (jobAt job)))) out
