@@ -1,0 +1,133 @@
+//! Compares the library with the second implementation on random jobs, plans and damaged files.
+
+use std::path::{Path, PathBuf};
+use std::process::ExitCode;
+use std::{env, fs};
+
+use compare::console::{Console, SECOND};
+use compare::foreign::{BASELINE, LIBRARY};
+use compare::random::Random;
+use compare::refusal::WORDS;
+use compare::rounds;
+use compare::trial::{Mismatch, Tally, Trial};
+
+const DEFAULT_COUNT: u64 = 5_000;
+const DEFAULT_SEED: u64 = 1;
+const LEAST_PASSED: u64 = 10_000;
+const LEAST_PASSED_DEEP: u64 = 1_000;
+
+const USAGE: &str = "usage: compare [--count JOBS] [--seed NUMBER] [--out FOLDER] [--pair FOLDER]
+               [--console library|baseline|second]
+  --count    random jobs to try
+  --seed     where the random numbers start
+  --out      where job.bin and plan.bin are written after a mismatch (default: here)
+  --pair     try job.bin and plan.bin of a folder instead of random jobs
+  --console  which implementation to hold to the second one (default: library)";
+
+struct Options {
+    count: u64,
+    seed: u64,
+    out: PathBuf,
+    pair: Option<PathBuf>,
+    console: Console,
+}
+
+fn main() -> ExitCode {
+    let Some(options) = read_options() else {
+        eprintln!("{USAGE}");
+        return ExitCode::from(2);
+    };
+    let mut trial = Trial::new(options.console);
+    let outcome = match &options.pair {
+        Some(folder) => try_pair(&mut trial, folder),
+        None => try_random(&mut trial, &options),
+    };
+    println!("{}", trial.tally);
+    if let Err(mismatch) = outcome {
+        report(&mismatch, &options.out);
+        return ExitCode::FAILURE;
+    }
+    let complaints =
+        if options.pair.is_some() { vec![] } else { missed(&trial.tally, options.count) };
+    for complaint in &complaints {
+        println!("too little was tried: {complaint}");
+    }
+    if !complaints.is_empty() {
+        return ExitCode::FAILURE;
+    }
+    println!("no difference");
+    ExitCode::SUCCESS
+}
+
+fn read_options() -> Option<Options> {
+    let mut options = Options {
+        count: DEFAULT_COUNT,
+        seed: DEFAULT_SEED,
+        out: PathBuf::from("."),
+        pair: None,
+        console: LIBRARY,
+    };
+    let mut words = env::args().skip(1);
+    while let Some(word) = words.next() {
+        let value = words.next()?;
+        match word.as_str() {
+            "--count" => options.count = value.parse().ok()?,
+            "--seed" => options.seed = value.parse().ok()?,
+            "--out" => options.out = value.into(),
+            "--pair" => options.pair = Some(value.into()),
+            "--console" => options.console = console_named(&value)?,
+            _ => return None,
+        }
+    }
+    Some(options)
+}
+
+fn console_named(name: &str) -> Option<Console> {
+    [LIBRARY, BASELINE, SECOND].into_iter().find(|console| console.name == name)
+}
+
+fn try_random(trial: &mut Trial, options: &Options) -> Result<(), Mismatch> {
+    println!(
+        "{} against second: {} jobs, seed {}",
+        trial.console.name, options.count, options.seed
+    );
+    let mut random = Random::new(options.seed);
+    (0..options.count).try_for_each(|_| rounds::round(trial, &mut random))
+}
+
+fn try_pair(trial: &mut Trial, folder: &Path) -> Result<(), Mismatch> {
+    println!("{} against second: one pair of files", trial.console.name);
+    let read = |name: &str| {
+        let path = folder.join(name);
+        fs::read(&path).unwrap_or_else(|error| panic!("{}: {error}", path.display()))
+    };
+    rounds::pair(trial, &read("job.bin"), &read("plan.bin"))
+}
+
+fn report(mismatch: &Mismatch, folder: &Path) {
+    println!("MISMATCH: {}", mismatch.text);
+    for (name, bytes) in [("job.bin", &mismatch.job), ("plan.bin", &mismatch.plan)] {
+        let path = folder.join(name);
+        match fs::write(&path, bytes) {
+            Ok(()) => println!("written: {}", path.display()),
+            Err(error) => println!("not written: {}: {error}", path.display()),
+        }
+    }
+}
+
+/// What a run did not meet. The numbers of passed plans are asked for from the default count on.
+fn missed(tally: &Tally, count: u64) -> Vec<String> {
+    let numbers = (1..WORDS.len()).filter(|&number| tally.met(number) == 0);
+    let mut complaints: Vec<String> =
+        numbers.map(|number| format!("refusal {number}, {}, was not met", WORDS[number])).collect();
+    if count >= DEFAULT_COUNT {
+        let deep = "passed plans with a path of two weak links or more";
+        let demands = [
+            (tally.passed, LEAST_PASSED, "passed plans"),
+            (tally.passed_deep, LEAST_PASSED_DEEP, deep),
+        ];
+        let short = demands.into_iter().filter(|(met, least, _)| met < least);
+        complaints.extend(short.map(|(met, least, what)| format!("{met} {what}, not {least}")));
+    }
+    complaints
+}

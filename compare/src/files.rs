@@ -1,0 +1,203 @@
+//! Job and plan files: read number by number, and written.
+
+use crate::refusal::{Refusal, COUNT, LINK_ORDER, SHORT, TAIL, UNABLE, VALUE, VERSION};
+
+pub const NODES: (u64, u64) = (2, 16);
+pub const TASKS: (u64, u64) = (1, 64);
+pub const LINKS: (u64, u64) = (0, 512);
+pub const MAX_DETECT: u64 = 1_000;
+pub const MAX_TIME: u64 = 1_000_000;
+
+#[derive(Clone, Debug, PartialEq, Eq)]
+pub struct Job {
+    /// The detect time of each node.
+    pub detect: Vec<u64>,
+    pub tasks: Vec<Task>,
+    pub links: Vec<Link>,
+}
+
+#[derive(Clone, Debug, PartialEq, Eq)]
+pub struct Task {
+    pub deadline: u64,
+    /// The run time on each node; 0 where the node cannot run the task.
+    pub run: Vec<u64>,
+}
+
+#[derive(Clone, Copy, Debug, PartialEq, Eq)]
+pub struct Link {
+    pub from: usize,
+    pub to: usize,
+    pub delay: u64,
+}
+
+#[derive(Clone, Debug, PartialEq, Eq)]
+pub struct Plan {
+    pub rows: Vec<Row>,
+}
+
+#[derive(Clone, Copy, Debug, PartialEq, Eq)]
+pub struct Row {
+    pub primary: Place,
+    pub backup: Place,
+}
+
+#[derive(Clone, Copy, Debug, PartialEq, Eq)]
+pub struct Place {
+    pub node: usize,
+    pub start: u64,
+}
+
+impl Job {
+    pub fn links_into(&self, task: usize) -> impl Iterator<Item = &Link> {
+        self.links.iter().filter(move |link| link.to == task)
+    }
+}
+
+/// A file and the offset of the number that is due next.
+struct Cursor<'a> {
+    bytes: &'a [u8],
+    offset: usize,
+}
+
+impl Cursor<'_> {
+    fn refuse<T>(&self, number: u8, offset: usize) -> Result<T, Refusal> {
+        Err(Refusal::at(number, offset as u64))
+    }
+
+    fn number(&mut self) -> Result<u64, Refusal> {
+        match self.bytes.get(self.offset..self.offset + 4) {
+            None => self.refuse(SHORT, self.offset),
+            Some(four) => {
+                self.offset += 4;
+                Ok(u64::from(u32::from_le_bytes([four[0], four[1], four[2], four[3]])))
+            }
+        }
+    }
+
+    /// A number from `low` to `high`; none is good if `low` is the greater.
+    fn within(&mut self, low: u64, high: u64, refusal: u8) -> Result<u64, Refusal> {
+        let offset = self.offset;
+        let number = self.number()?;
+        if number < low || number > high {
+            return self.refuse(refusal, offset);
+        }
+        Ok(number)
+    }
+
+    fn version(&mut self) -> Result<u64, Refusal> {
+        self.within(1, 1, VERSION)
+    }
+
+    fn count(&mut self, limits: (u64, u64)) -> Result<usize, Refusal> {
+        Ok(self.within(limits.0, limits.1, COUNT)? as usize)
+    }
+
+    fn value(&mut self, low: u64, high: u64) -> Result<u64, Refusal> {
+        self.within(low, high, VALUE)
+    }
+
+    fn end(&self) -> Result<(), Refusal> {
+        if self.offset < self.bytes.len() {
+            return self.refuse(TAIL, self.offset);
+        }
+        Ok(())
+    }
+}
+
+pub fn read_job(bytes: &[u8]) -> Result<Job, Refusal> {
+    let mut file = Cursor { bytes, offset: 0 };
+    file.version()?;
+    let nodes = file.count(NODES)?;
+    let detect = (0..nodes).map(|_| file.value(0, MAX_DETECT)).collect::<Result<_, _>>()?;
+    let task_count = file.count(TASKS)?;
+    let tasks = (0..task_count).map(|_| read_task(&mut file, nodes)).collect::<Result<_, _>>()?;
+    let links = read_links(&mut file, task_count)?;
+    file.end()?;
+    Ok(Job { detect, tasks, links })
+}
+
+fn read_task(file: &mut Cursor, nodes: usize) -> Result<Task, Refusal> {
+    let deadline = file.value(1, MAX_TIME)?;
+    let run = (0..nodes).map(|_| file.value(0, MAX_TIME)).collect::<Result<_, _>>()?;
+    Ok(Task { deadline, run })
+}
+
+fn read_links(file: &mut Cursor, tasks: usize) -> Result<Vec<Link>, Refusal> {
+    let count = file.count(LINKS)?;
+    let mut links: Vec<Link> = Vec::new();
+    for _ in 0..count {
+        let offset = file.offset;
+        let link = read_link(file, tasks as u64 - 1)?;
+        let rises = links.last().is_none_or(|last| (last.from, last.to) < (link.from, link.to));
+        if !rises {
+            return file.refuse(LINK_ORDER, offset);
+        }
+        links.push(link);
+    }
+    Ok(links)
+}
+
+/// The last task sends nothing: with it as `from`, no `to` is good.
+fn read_link(file: &mut Cursor, last_task: u64) -> Result<Link, Refusal> {
+    let from = file.value(0, last_task)?;
+    let to = file.value(from + 1, last_task)?;
+    let delay = file.value(0, MAX_TIME)?;
+    Ok(Link { from: from as usize, to: to as usize, delay })
+}
+
+pub fn read_plan(job: &Job, bytes: &[u8]) -> Result<Plan, Refusal> {
+    let mut file = Cursor { bytes, offset: 0 };
+    file.version()?;
+    let tasks = job.tasks.len() as u64;
+    file.count((tasks, tasks))?;
+    let mut rows = Vec::new();
+    for task in &job.tasks {
+        let primary = read_place(&mut file, task)?;
+        let backup = read_place(&mut file, task)?;
+        rows.push(Row { primary, backup });
+    }
+    file.end()?;
+    Ok(Plan { rows })
+}
+
+/// That the node can run the task is asked before the start is read.
+fn read_place(file: &mut Cursor, task: &Task) -> Result<Place, Refusal> {
+    let offset = file.offset;
+    let node = file.value(0, task.run.len() as u64 - 1)? as usize;
+    if task.run[node] == 0 {
+        return file.refuse(UNABLE, offset);
+    }
+    let start = file.value(0, MAX_TIME)?;
+    Ok(Place { node, start })
+}
+
+fn bytes_of(numbers: &[u64]) -> Vec<u8> {
+    numbers.iter().flat_map(|&number| (number as u32).to_le_bytes()).collect()
+}
+
+/// The bytes of a job, good or not: whoever makes test files wants faulty ones too.
+pub fn write_job(job: &Job) -> Vec<u8> {
+    let mut numbers = vec![1, job.detect.len() as u64];
+    numbers.extend(&job.detect);
+    numbers.push(job.tasks.len() as u64);
+    for task in &job.tasks {
+        numbers.push(task.deadline);
+        numbers.extend(&task.run);
+    }
+    numbers.push(job.links.len() as u64);
+    for link in &job.links {
+        numbers.extend([link.from as u64, link.to as u64, link.delay]);
+    }
+    bytes_of(&numbers)
+}
+
+/// The bytes of a plan, good or not.
+pub fn write_plan(plan: &Plan) -> Vec<u8> {
+    let mut numbers = vec![1, plan.rows.len() as u64];
+    for row in &plan.rows {
+        for place in [row.primary, row.backup] {
+            numbers.extend([place.node as u64, place.start]);
+        }
+    }
+    bytes_of(&numbers)
+}

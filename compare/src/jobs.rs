@@ -1,0 +1,120 @@
+//! Random jobs. Numbers are small, so that copies get in each other's way.
+
+use crate::files::{Job, Link, Task, LINKS, MAX_DETECT, MAX_TIME};
+use crate::random::Random;
+
+/// What a job's numbers are drawn from.
+struct Style {
+    nodes: u64,
+    tasks: u64,
+    max_run: u64,
+    max_detect: u64,
+    max_delay: u64,
+    /// Chances in a hundred.
+    unable: u64,
+    linked: u64,
+    chained: u64,
+    /// All times are multiples of this, so that large numbers meet as often as small ones.
+    unit: u64,
+}
+
+pub fn random_job(random: &mut Random) -> Job {
+    let style = random_style(random);
+    let tasks = deadlines(random, &style).into_iter();
+    let mut job = Job {
+        detect: (0..style.nodes).map(|_| random_detect(random, &style)).collect(),
+        tasks: tasks.map(|deadline| random_task(random, &style, deadline)).collect(),
+        links: random_links(random, &style),
+    };
+    if random.percent(3) {
+        push_to_limits(random, &mut job);
+    }
+    job
+}
+
+fn random_style(random: &mut Random) -> Style {
+    let (nodes, tasks) = random_size(random);
+    let full = tasks == 64 && nodes == 16;
+    Style {
+        nodes,
+        tasks,
+        max_run: random.pick(&[1, 2, 4, 4, 8]),
+        max_detect: random.pick(&[0, 1, 1, 3]),
+        max_delay: random.pick(&[0, 1, 3, 3, 8, 30]),
+        unable: random.pick(&[0, 0, 5, 20, 40]),
+        linked: if full { 100 } else { random.pick(&[0, 5, 15, 30, 60, 100]) },
+        chained: random.pick(&[0, 30, 80]),
+        unit: if random.percent(4) { random.pick(&[251, 9_973, 100_000]) } else { 1 },
+    }
+}
+
+/// Mostly small jobs, some of every size, some full.
+fn random_size(random: &mut Random) -> (u64, u64) {
+    match random.between(0, 999) {
+        0..=599 => (random.between(2, 5), random.between(1, 7)),
+        600..=899 => (random.between(2, 8), random.between(3, 14)),
+        900..=989 => (random.between(2, 16), random.between(1, 64)),
+        _ => (16, 64),
+    }
+}
+
+fn random_detect(random: &mut Random, style: &Style) -> u64 {
+    (random.between(0, style.max_detect) * style.unit).min(MAX_DETECT)
+}
+
+fn random_task(random: &mut Random, style: &Style, deadline: u64) -> Task {
+    let mut run = || {
+        let able = !random.percent(style.unable);
+        let run = if able { random.between(1, style.max_run) } else { 0 };
+        (run * style.unit).min(MAX_TIME)
+    };
+    Task { deadline, run: (0..style.nodes).map(|_| run()).collect() }
+}
+
+/// Loose for most jobs; for the others near the times at which backups may finish.
+fn deadlines(random: &mut Random, style: &Style) -> Vec<u64> {
+    let step = style.max_run + style.max_delay / 2 + 1;
+    let tightness = random.pick(&[0, 0, 0, 10, 100]);
+    let mut deadline = |task: u64| {
+        let near = random.between(2, 3 + (task + 4) * step) * style.unit;
+        let loose = random.pick(&[MAX_TIME, MAX_TIME, 400 * style.unit]);
+        (if random.percent(tightness) { near } else { loose }).clamp(1, MAX_TIME)
+    };
+    (0..style.tasks).map(&mut deadline).collect()
+}
+
+fn random_links(random: &mut Random, style: &Style) -> Vec<Link> {
+    let mut links = Vec::new();
+    for from in 0..style.tasks {
+        for to in from + 1..style.tasks {
+            let chance =
+                if to == from + 1 { style.linked.max(style.chained) } else { style.linked };
+            if random.percent(chance) {
+                let delay = (random.between(0, style.max_delay) * style.unit).min(MAX_TIME);
+                links.push(Link { from: from as usize, to: to as usize, delay });
+            }
+        }
+    }
+    while links.len() > LINKS.1 as usize {
+        links.remove(random.below(links.len()));
+    }
+    links
+}
+
+/// Sets some numbers to the greatest that the reader takes.
+fn push_to_limits(random: &mut Random, job: &mut Job) {
+    for detect in &mut job.detect {
+        if random.percent(30) {
+            *detect = MAX_DETECT;
+        }
+    }
+    for task in &mut job.tasks {
+        let node = random.below(task.run.len());
+        task.run[node] = random.pick(&[task.run[node], MAX_TIME, MAX_TIME - 1]);
+    }
+    for link in &mut job.links {
+        if random.percent(20) {
+            link.delay = MAX_TIME;
+        }
+    }
+}

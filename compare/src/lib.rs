@@ -1,0 +1,17 @@
+//! A second implementation of document 01, and what compares the proved library with it.
+
+pub mod console;
+pub mod damage;
+pub mod files;
+pub mod foreign;
+pub mod jobs;
+pub mod planner;
+pub mod plans;
+pub mod random;
+pub mod refusal;
+pub mod replay;
+pub mod rounds;
+pub mod rules;
+pub mod samples;
+pub mod survival;
+pub mod trial;

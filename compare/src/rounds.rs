@@ -1,0 +1,372 @@
+//! One round of the comparison: a random job, plans for it, and damaged files of both.
+
+use std::collections::BTreeSet;
+
+use crate::console::{plan_bytes, replay_bytes};
+use crate::damage::{damaged, disordered};
+use crate::files::{read_job, read_plan, write_job, write_plan, Job, Plan, NODES, TASKS};
+use crate::jobs::random_job;
+use crate::plans::{changed_plan, passing_plan, wild_plan};
+use crate::random::Random;
+use crate::refusal::SAME_NODE;
+use crate::replay::Loss;
+use crate::rules::{layout, longest_weak_path};
+use crate::survival::Survival;
+use crate::trial::{Call, Function, Mismatch, Trial};
+
+/// Up to so many runs of a passed plan, every node is lost at every tick.
+const MOST_RUNS: u64 = 8_000;
+
+/// A job's value and bytes.
+struct Given {
+    job: Job,
+    bytes: Vec<u8>,
+}
+
+impl Given {
+    fn judge<'a>(&'a self, plan: &'a [u8]) -> Call<'a> {
+        Call { function: Function::Judge, job: &self.bytes, plan, room: 0 }
+    }
+
+    fn plan(&self, room: usize) -> Call<'_> {
+        Call { function: Function::Plan, job: &self.bytes, plan: &[], room }
+    }
+
+    fn replay<'a>(&'a self, plan: &'a [u8], loss: Option<Loss>, room: usize) -> Call<'a> {
+        Call { function: Function::Replay(loss), job: &self.bytes, plan, room }
+    }
+
+    fn nodes(&self) -> usize {
+        self.job.detect.len()
+    }
+
+    fn plan_room(&self) -> usize {
+        plan_bytes(self.job.tasks.len())
+    }
+
+    fn replay_room(&self) -> usize {
+        replay_bytes(self.job.tasks.len())
+    }
+}
+
+pub fn round(trial: &mut Trial, random: &mut Random) -> Result<(), Mismatch> {
+    let job = random_job(random);
+    let given = Given { bytes: write_job(&job), job };
+    let planned = try_planner(trial, random, &given)?;
+    let good = good_plans(random, &given.job, planned);
+    for plan in &good {
+        try_plan(trial, random, &given, &write_plan(plan))?;
+        try_changes(trial, random, &given, plan)?;
+        try_deadlines(trial, random, &given, plan)?;
+    }
+    let wild = write_plan(&wild_plan(random, &given.job));
+    try_plan(trial, random, &given, &wild)?;
+    let plan = good.first().map_or(wild, write_plan);
+    try_damage(trial, random, &given, &plan)?;
+    if random.percent(3) && given.bytes.len() < 400 {
+        try_every_length(trial, &given, &plan)?;
+    }
+    Ok(())
+}
+
+/// All comparisons on a given pair of files, as written after a mismatch: nothing is left to
+/// chance, so that the mismatch is met again.
+pub fn pair(trial: &mut Trial, job: &[u8], plan: &[u8]) -> Result<(), Mismatch> {
+    let most = plan_bytes(TASKS.1 as usize) + 16;
+    trial.compare(&Call { function: Function::Judge, job, plan, room: 0 })?;
+    let lose = |node: u32| Function::Replay(Some(Loss { node, moment: 3 }));
+    for room in 0..=most {
+        for function in [Function::Plan, Function::Replay(None), lose(0), lose(u32::MAX)] {
+            trial.compare(&Call { function, job, plan, room })?;
+        }
+    }
+    for node in (0..=NODES.1 as u32).chain(FAR_NODES) {
+        trial.compare(&Call { function: lose(node), job, plan, room: most })?;
+    }
+    match read_job(job) {
+        Ok(job) => pair_losses(trial, &Given { bytes: write_job(&job), job }, plan),
+        Err(_) => Ok(()),
+    }
+}
+
+/// Every node lost at every moment of interest, if both files read well.
+fn pair_losses(trial: &mut Trial, given: &Given, bytes: &[u8]) -> Result<(), Mismatch> {
+    let Ok(plan) = read_plan(&given.job, bytes) else {
+        return Ok(());
+    };
+    let survival = Survival::new(&given.job, &plan);
+    let after = moments_after(&survival).into_iter();
+    let moments: BTreeSet<u64> = survival.moments().map(|(_, m)| m).chain(after).collect();
+    for node in 0..given.nodes() as u32 {
+        for &moment in &moments {
+            let loss = Some(Loss { node, moment: moment as u32 });
+            trial.compare(&given.replay(bytes, loss, given.replay_room()))?;
+        }
+    }
+    if trial.compare(&given.judge(bytes))? == 0 {
+        try_survival(trial, &mut Random::new(0), given, bytes, &survival)?;
+    }
+    Ok(())
+}
+
+/// Answers the planner's plan, if there is one.
+fn try_planner(
+    trial: &mut Trial,
+    random: &mut Random,
+    given: &Given,
+) -> Result<Option<Vec<u8>>, Mismatch> {
+    let room = given.plan_room();
+    if random.percent(4) && given.job.tasks.len() <= 16 {
+        for room in 0..=room + 17 {
+            trial.compare(&given.plan(room))?;
+        }
+    }
+    trial.compare(&given.plan(some_room(random, room)))?;
+    let code = trial.compare(&given.plan(room))?;
+    let planned = (code == 0).then(|| trial.written().to_vec());
+    if let Some(plan) = &planned {
+        let call = given.judge(plan);
+        if trial.compare(&call)? != 0 {
+            return Err(Mismatch::new(&call, "refused the planner's own plan".into()));
+        }
+    }
+    Ok(planned)
+}
+
+/// A buffer length near the one needed, or far too small.
+fn some_room(random: &mut Random, needed: usize) -> usize {
+    let near = needed - 5 + random.below(14);
+    if random.percent(20) {
+        random.below(needed)
+    } else {
+        near
+    }
+}
+
+/// The planner's plan and others that keep the rules.
+fn good_plans(random: &mut Random, job: &Job, planned: Option<Vec<u8>>) -> Vec<Plan> {
+    let planned = planned.and_then(|bytes| read_plan(job, &bytes).ok());
+    let mut good: Vec<Plan> = planned.into_iter().collect();
+    for _ in 0..2 {
+        let another = passing_plan(random, job).filter(|plan| !good.contains(plan));
+        good.extend(another);
+    }
+    good
+}
+
+/// Two changed plans tried in full, and more put before the judge.
+fn try_changes(
+    trial: &mut Trial,
+    random: &mut Random,
+    given: &Given,
+    plan: &Plan,
+) -> Result<(), Mismatch> {
+    for _ in 0..2 {
+        let changed = changed_plan(random, &given.job, plan);
+        // A plan that came out as it was would be counted as passed twice.
+        if changed != *plan {
+            try_plan(trial, random, given, &write_plan(&changed))?;
+        }
+    }
+    for _ in 0..16 {
+        let changed = write_plan(&changed_plan(random, &given.job, plan));
+        trial.compare(&given.judge(&changed))?;
+    }
+    Ok(())
+}
+
+/// A deadline set to a finish of the plan, and to one tick less.
+fn try_deadlines(
+    trial: &mut Trial,
+    random: &mut Random,
+    given: &Given,
+    plan: &Plan,
+) -> Result<(), Mismatch> {
+    let task = random.below(plan.rows.len());
+    let places = [plan.rows[task].primary, plan.rows[task].backup];
+    for place in places {
+        let finish = place.start + given.job.tasks[task].run[place.node];
+        for deadline in [finish, finish - 1] {
+            let mut job = given.job.clone();
+            job.tasks[task].deadline = deadline;
+            let tight = Given { bytes: write_job(&job), job };
+            trial.compare(&tight.judge(&write_plan(plan)))?;
+            trial.compare(&tight.plan(tight.plan_room()))?;
+        }
+    }
+    Ok(())
+}
+
+fn try_plan(
+    trial: &mut Trial,
+    random: &mut Random,
+    given: &Given,
+    bytes: &[u8],
+) -> Result<(), Mismatch> {
+    let code = trial.compare(&given.judge(bytes))?;
+    trial.compare(&given.replay(bytes, None, given.replay_room()))?;
+    try_replay_rooms(trial, random, given, bytes)?;
+    let Ok(plan) = read_plan(&given.job, bytes) else {
+        return Ok(());
+    };
+    assert!(code == 0 || code & 0xff >= u64::from(SAME_NODE));
+    let survival = Survival::new(&given.job, &plan);
+    try_losses(trial, random, given, bytes, &survival, code == 0)?;
+    if code == 0 {
+        trial.tally.passed += 1;
+        let weak_path = longest_weak_path(&given.job, &layout(&given.job, &plan));
+        trial.tally.passed_deep += u64::from(weak_path >= 2);
+        trial.tally.passed_large += u64::from(plan.rows.len() >= 32);
+        try_survival(trial, random, given, bytes, &survival)?;
+    }
+    Ok(())
+}
+
+/// Short and long buffers, with the loss of a node that is there and one that is not.
+fn try_replay_rooms(
+    trial: &mut Trial,
+    random: &mut Random,
+    given: &Given,
+    plan: &[u8],
+) -> Result<(), Mismatch> {
+    let needed = given.replay_room();
+    let loss =
+        Loss { node: random.below(given.nodes()) as u32, moment: random.between(0, 20) as u32 };
+    if random.percent(2) && given.job.tasks.len() <= 16 {
+        for room in 0..=needed + 13 {
+            trial.compare(&given.replay(plan, None, room))?;
+            trial.compare(&given.replay(plan, Some(loss), room))?;
+        }
+    }
+    trial.compare(&given.replay(plan, None, some_room(random, needed)))?;
+    trial.compare(&given.replay(plan, Some(loss), some_room(random, needed)))?;
+    let missing = Loss { node: missing_node(random, given.nodes() as u32), ..loss };
+    trial.compare(&given.replay(plan, Some(missing), some_room(random, needed)))?;
+    Ok(())
+}
+
+const FAR_NODES: [u32; 13] =
+    [16, 17, 31, 32, 64, 255, 256, 65_535, 65_536, 1 << 24, 1 << 31, u32::MAX - 1, u32::MAX];
+
+fn missing_node(random: &mut Random, nodes: u32) -> u32 {
+    let (far, any) = (random.pick(&FAR_NODES), random.draw() as u32);
+    random.pick(&[nodes, nodes, nodes + 1, far, u32::MAX, any]).max(nodes)
+}
+
+/// Moments from the end of a plan on, up to the greatest that can be asked for.
+fn moments_after(survival: &Survival) -> [u64; 4] {
+    [survival.end(), survival.end() + 1, 2_000_000, u64::from(u32::MAX)]
+}
+
+/// Losses at every start and finish, one tick before each, and after the end. Of a plan that was
+/// refused, or a long one, only some of them.
+fn try_losses(
+    trial: &mut Trial,
+    random: &mut Random,
+    given: &Given,
+    plan: &[u8],
+    survival: &Survival,
+    passed: bool,
+) -> Result<(), Mismatch> {
+    let mut losses: Vec<(usize, u64)> = survival.moments().collect();
+    let wanted = if passed { 256 } else { 24 };
+    while losses.len() > wanted {
+        losses.swap_remove(random.below(losses.len()));
+    }
+    let node = random.below(given.nodes());
+    losses.extend(moments_after(survival).map(|moment| (node, moment)));
+    losses.push((node, random.between(0, survival.end() + 1)));
+    for (node, moment) in losses {
+        let loss = Loss { node: node as u32, moment: moment as u32 };
+        trial.compare(&given.replay(plan, Some(loss), given.replay_room()))?;
+    }
+    Ok(())
+}
+
+/// Demand 3 on the console's own replay of a passed plan.
+fn try_survival(
+    trial: &mut Trial,
+    random: &mut Random,
+    given: &Given,
+    plan: &[u8],
+    survival: &Survival,
+) -> Result<(), Mismatch> {
+    let mut rows = vec![0; given.replay_room()];
+    let mut run = |loss: Option<Loss>| {
+        trial.tally.survived += 1;
+        let code = (trial.console.replay)(&given.bytes, plan, loss, &mut rows);
+        let refused = (code != 0).then(|| "refused the replay of a passed plan".to_string());
+        let fault = refused.or_else(|| survival.fault(loss, &rows));
+        let call = given.replay(plan, loss, rows.len());
+        fault.map_or(Ok(()), |text| Err(Mismatch::new(&call, text)))
+    };
+    run(None)?;
+    let (nodes, end) = (given.nodes() as u64, survival.end() + 1);
+    let lost = |node: u64, moment: u64| Some(Loss { node: node as u32, moment: moment as u32 });
+    if nodes * (end + 1) <= MOST_RUNS {
+        for node in 0..nodes {
+            (0..=end).try_for_each(|moment| run(lost(node, moment)))?;
+        }
+        trial.tally.every_tick += 1;
+        return Ok(());
+    }
+    for (node, moment) in survival.moments() {
+        run(lost(node as u64, moment))?;
+    }
+    for _ in 0..200 {
+        run(lost(random.between(0, nodes - 1), random.between(0, end)))?;
+    }
+    Ok(())
+}
+
+fn try_damage(
+    trial: &mut Trial,
+    random: &mut Random,
+    given: &Given,
+    plan: &[u8],
+) -> Result<(), Mismatch> {
+    for _ in 0..6 {
+        let (bad_job, bad_plan) = (damaged(random, &given.bytes), damaged(random, plan));
+        try_files(trial, random, &bad_job, plan)?;
+        try_files(trial, random, &given.bytes, &bad_plan)?;
+    }
+    if let Some(job) = disordered(random, &given.bytes) {
+        try_files(trial, random, &job, plan)?;
+    }
+    let (job, plan) = (damaged(random, &given.bytes), damaged(random, plan));
+    try_files(trial, random, &job, &plan)
+}
+
+/// Both files cut at every length, and with a tail.
+fn try_every_length(trial: &mut Trial, given: &Given, plan: &[u8]) -> Result<(), Mismatch> {
+    let random = &mut Random::new(0);
+    for length in 0..given.bytes.len() {
+        try_files(trial, random, &given.bytes[..length], plan)?;
+    }
+    for length in 0..plan.len() {
+        try_files(trial, random, &given.bytes, &plan[..length])?;
+    }
+    for extra in 1..9 {
+        try_files(trial, random, &[&given.bytes, &[0; 9][..extra]].concat(), plan)?;
+        try_files(trial, random, &given.bytes, &[plan, &[1; 9][..extra]].concat())?;
+    }
+    Ok(())
+}
+
+/// The four functions on any two files.
+fn try_files(
+    trial: &mut Trial,
+    random: &mut Random,
+    job: &[u8],
+    plan: &[u8],
+) -> Result<(), Mismatch> {
+    let room = random.pick(&[0, 100, 1_100]);
+    let node = random.pick(&[0, 1, 2, 15, 16, u32::MAX]);
+    let loss = Some(Loss { node, moment: random.between(0, 30) as u32 });
+    let functions =
+        [Function::Judge, Function::Plan, Function::Replay(None), Function::Replay(loss)];
+    for function in functions {
+        trial.compare(&Call { function, job, plan, room })?;
+    }
+    Ok(())
+}

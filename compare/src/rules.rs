@@ -1,0 +1,141 @@
+//! Rules A to G of a plan, and the judge.
+
+use std::collections::BTreeSet;
+
+use crate::files::{Job, Link, Place, Plan};
+use crate::refusal::{
+    Refusal, BACKUP_UNFED, COMMON_LOSS, EARLY, LATE, OVERLAP, PRIMARY_UNFED, SAME_NODE,
+};
+
+/// A copy in its place: it holds `node` from `start` up to, but not including, `finish`.
+#[derive(Clone, Copy, Debug, PartialEq, Eq)]
+pub struct Copy {
+    pub node: usize,
+    pub start: u64,
+    pub finish: u64,
+}
+
+/// The copies placed so far, by task. A plan's layout has both copies of every task;
+/// the planner's grows, and may have one primary more than it has backups.
+#[derive(Clone, Debug, Default)]
+pub struct Layout {
+    pub primaries: Vec<Copy>,
+    pub backups: Vec<Copy>,
+}
+
+pub fn copy(job: &Job, task: usize, place: Place) -> Copy {
+    let finish = place.start + job.tasks[task].run[place.node];
+    Copy { node: place.node, start: place.start, finish }
+}
+
+pub fn layout(job: &Job, plan: &Plan) -> Layout {
+    let rows = || plan.rows.iter().enumerate();
+    Layout {
+        primaries: rows().map(|(task, row)| copy(job, task, row.primary)).collect(),
+        backups: rows().map(|(task, row)| copy(job, task, row.backup)).collect(),
+    }
+}
+
+/// When the result of `sender` is on `node`.
+pub fn arrival(link: &Link, sender: &Copy, node: usize) -> u64 {
+    let delay = if sender.node == node { 0 } else { link.delay };
+    sender.finish + delay
+}
+
+pub fn in_time(link: &Link, sender: &Copy, receiver: &Copy) -> bool {
+    arrival(link, sender, receiver.node) <= receiver.start
+}
+
+/// The copies hold one node, and some tick is held by both.
+pub fn overlap(a: &Copy, b: &Copy) -> bool {
+    a.node == b.node && a.start < b.finish && b.start < a.finish
+}
+
+/// Rule B: the loss of the primary's node is known before the backup starts.
+pub fn after_detection(job: &Job, primary: &Copy, backup: &Copy) -> bool {
+    primary.finish + job.detect[primary.node] <= backup.start
+}
+
+/// Rule D for one link, with the receiving primary given.
+pub fn primary_fed(layout: &Layout, link: &Link, primary: &Copy) -> bool {
+    in_time(link, &layout.primaries[link.from], primary)
+}
+
+/// Rule E for one link, with the receiving backup given.
+pub fn backup_fed(layout: &Layout, link: &Link, backup: &Copy) -> bool {
+    in_time(link, &layout.primaries[link.from], backup)
+        && in_time(link, &layout.backups[link.from], backup)
+}
+
+/// A link is weak if the sender's backup may come too late for the receiver's primary.
+pub fn is_weak(layout: &Layout, link: &Link) -> bool {
+    !in_time(link, &layout.backups[link.from], &layout.primaries[link.to])
+}
+
+/// The fault set of a task (document 01's peril): the nodes whose loss may keep its primary
+/// from finishing. It asks only for the copies of lower tasks and the task's own primary.
+pub fn fault_set(job: &Job, layout: &Layout, task: usize) -> BTreeSet<usize> {
+    let mut reached = BTreeSet::from([task]);
+    let mut open = vec![task];
+    while let Some(receiver) = open.pop() {
+        for link in job.links_into(receiver).filter(|link| is_weak(layout, link)) {
+            if reached.insert(link.from) {
+                open.push(link.from);
+            }
+        }
+    }
+    reached.iter().map(|&task| layout.primaries[task].node).collect()
+}
+
+/// The number of links on the longest path of weak links.
+pub fn longest_weak_path(job: &Job, layout: &Layout) -> usize {
+    let mut longest = vec![0; job.tasks.len()];
+    for task in 0..job.tasks.len() {
+        let weak = job.links_into(task).filter(|link| is_weak(layout, link));
+        longest[task] = weak.map(|link| longest[link.from] + 1).max().unwrap_or(0);
+    }
+    longest.into_iter().max().unwrap_or(0)
+}
+
+pub fn judge(job: &Job, plan: &Plan) -> Result<(), Refusal> {
+    let placed = layout(job, plan);
+    let Layout { primaries, backups } = &placed;
+    let tasks = 0..job.tasks.len();
+    let every_task = |number: u8, holds: &dyn Fn(usize) -> bool| {
+        let broken = tasks.clone().find(|&task| !holds(task));
+        broken.map_or(Ok(()), |task| Err(Refusal::of_task(number, task)))
+    };
+    let every_link = |number: u8, holds: &dyn Fn(&Link) -> bool| {
+        let broken = job.links.iter().find(|link| !holds(link));
+        broken.map_or(Ok(()), |link| Err(Refusal::of_tasks(number, link.from, link.to)))
+    };
+    every_task(SAME_NODE, &|task| primaries[task].node != backups[task].node)?;
+    every_task(EARLY, &|task| after_detection(job, &primaries[task], &backups[task]))?;
+    every_task(LATE, &|task| backups[task].finish <= job.tasks[task].deadline)?;
+    every_link(PRIMARY_UNFED, &|link| primary_fed(&placed, link, &primaries[link.to]))?;
+    every_link(BACKUP_UNFED, &|link| backup_fed(&placed, link, &backups[link.to]))?;
+    let fault_sets: Vec<_> = tasks.clone().map(|task| fault_set(job, &placed, task)).collect();
+    every_task(COMMON_LOSS, &|task| !fault_sets[task].contains(&backups[task].node))?;
+    no_overlap(&placed, &fault_sets)
+}
+
+/// Rule G. Once rule A holds, a task's own two copies are on different nodes, so that pairs of
+/// different tasks are all there is to try.
+fn no_overlap(layout: &Layout, fault_sets: &[BTreeSet<usize>]) -> Result<(), Refusal> {
+    for lower in 0..fault_sets.len() {
+        for higher in lower + 1..fault_sets.len() {
+            if tasks_clash(layout, fault_sets, lower, higher) {
+                return Err(Refusal::of_tasks(OVERLAP, lower, higher));
+            }
+        }
+    }
+    Ok(())
+}
+
+fn tasks_clash(layout: &Layout, fault_sets: &[BTreeSet<usize>], a: usize, b: usize) -> bool {
+    let Layout { primaries, backups } = layout;
+    overlap(&primaries[a], &primaries[b])
+        || overlap(&primaries[a], &backups[b])
+        || overlap(&backups[a], &primaries[b])
+        || overlap(&backups[a], &backups[b]) && !fault_sets[a].is_disjoint(&fault_sets[b])
+}

@@ -1,0 +1,193 @@
+//! Demand 3 on what replay wrote for a passed plan. It takes nothing from the rules or the replay
+//! of this package: only the job, the plan, the loss and the bytes.
+
+use crate::files::{Job, Plan};
+use crate::replay::Loss;
+
+/// A planned copy: task, whether it is the backup, and the ticks it is listed for.
+struct Span {
+    task: usize,
+    is_backup: bool,
+    node: usize,
+    start: u64,
+    finish: u64,
+}
+
+pub struct Survival<'a> {
+    job: &'a Job,
+    plan: &'a Plan,
+    /// All copies by node, then start.
+    spans: Vec<Span>,
+}
+
+const CUT: u64 = 1;
+const FINISHED: u64 = 2;
+
+/// What replay wrote for one task.
+#[derive(Clone, Copy)]
+struct Written {
+    primary: u64,
+    backup: u64,
+    finish: u64,
+}
+
+fn written(rows: &[u8], task: usize) -> Written {
+    let number = |at: usize| {
+        let four = &rows[12 * task + at..12 * task + at + 4];
+        u64::from(u32::from_le_bytes([four[0], four[1], four[2], four[3]]))
+    };
+    Written { primary: number(0), backup: number(4), finish: number(8) }
+}
+
+impl<'a> Survival<'a> {
+    pub fn new(job: &'a Job, plan: &'a Plan) -> Survival<'a> {
+        let mut spans = Vec::new();
+        for (task, row) in plan.rows.iter().enumerate() {
+            for (is_backup, place) in [(false, row.primary), (true, row.backup)] {
+                let finish = place.start + job.tasks[task].run[place.node];
+                spans.push(Span { task, is_backup, node: place.node, start: place.start, finish });
+            }
+        }
+        spans.sort_by_key(|span| (span.node, span.start));
+        Survival { job, plan, spans }
+    }
+
+    /// The latest finish of all copies.
+    pub fn end(&self) -> u64 {
+        self.spans.iter().map(|span| span.finish).max().unwrap_or(0)
+    }
+
+    /// The moments worth a trial on each node: every start and finish and the tick before.
+    pub fn moments(&self) -> impl Iterator<Item = (usize, u64)> + '_ {
+        self.spans.iter().flat_map(|span| {
+            let moments = [span.start.saturating_sub(1), span.start, span.finish - 1, span.finish];
+            moments.map(|moment| (span.node, moment))
+        })
+    }
+
+    /// What is wrong with the rows written for a loss, if anything is.
+    pub fn fault(&self, loss: Option<Loss>, rows: &[u8]) -> Option<String> {
+        self.unfinished(rows).or_else(|| self.doubly_held(loss, rows)).or_else(|| self.unfed(rows))
+    }
+
+    /// Exactly one copy of each task is finished, at its listed finish, from 1 to the deadline.
+    fn unfinished(&self, rows: &[u8]) -> Option<String> {
+        let sound = |task: usize| {
+            let row = written(rows, task);
+            row.primary <= FINISHED
+                && row.backup <= FINISHED
+                && (row.primary == FINISHED) != (row.backup == FINISHED)
+                && row.finish == self.listed_finish(task, row.backup == FINISHED)
+                && (1..=self.job.tasks[task].deadline).contains(&row.finish)
+        };
+        let task = (0..self.job.tasks.len()).find(|&task| !sound(task))?;
+        Some(format!("task {task} has no copy, or two, finished by its deadline"))
+    }
+
+    fn listed_finish(&self, task: usize, is_backup: bool) -> u64 {
+        let row = &self.plan.rows[task];
+        let place = if is_backup { row.backup } else { row.primary };
+        place.start + self.job.tasks[task].run[place.node]
+    }
+
+    /// No tick of a node is held by two started copies. Along the spans by node and start, a copy
+    /// shares a tick with an earlier one just if it starts before the latest of their ends.
+    fn doubly_held(&self, loss: Option<Loss>, rows: &[u8]) -> Option<String> {
+        let mut free = (0, 0);
+        for span in &self.spans {
+            let row = written(rows, span.task);
+            let state = if span.is_backup { row.backup } else { row.primary };
+            let end = match (state, loss) {
+                (FINISHED, _) => span.finish,
+                (CUT, Some(loss)) => u64::from(loss.moment),
+                (CUT, None) => return Some(format!("task {} is cut with no loss", span.task)),
+                _ => continue,
+            };
+            if span.node == free.0 && span.start < free.1 {
+                return Some(format!("a copy of task {} starts on a held node", span.task));
+            }
+            free = (span.node, if span.node == free.0 { end.max(free.1) } else { end });
+        }
+        None
+    }
+
+    /// A backup is called on if its primary did not finish; then it lacks no input.
+    fn unfed(&self, rows: &[u8]) -> Option<String> {
+        for link in &self.job.links {
+            if written(rows, link.to).primary == FINISHED {
+                continue;
+            }
+            let (sender, receiver) = (written(rows, link.from), self.plan.rows[link.to].backup);
+            let places = self.plan.rows[link.from];
+            let there = [(sender.primary, places.primary), (sender.backup, places.backup)];
+            let fed = there.into_iter().any(|(state, place)| {
+                let finish = place.start + self.job.tasks[link.from].run[place.node];
+                let delay = if place.node == receiver.node { 0 } else { link.delay };
+                state == FINISHED && finish + delay <= receiver.start
+            });
+            if !fed {
+                return Some(format!("the backup of task {} lacks task {}", link.to, link.from));
+            }
+        }
+        None
+    }
+}
+
+#[cfg(test)]
+mod tests {
+    use super::*;
+    use crate::console::{replay_bytes, SECOND};
+    use crate::files::{write_job, write_plan};
+    use crate::samples::{job, plan_of, without_link, SAMPLE_1};
+
+    fn fault_of(job: &Job, plan: &Plan, loss: Option<Loss>) -> Option<String> {
+        let mut rows = vec![0; replay_bytes(job.tasks.len())];
+        assert_eq!((SECOND.replay)(&write_job(job), &write_plan(plan), loss, &mut rows), 0);
+        Survival::new(job, plan).fault(loss, &rows)
+    }
+
+    fn lost(node: u32, moment: u32) -> Option<Loss> {
+        Some(Loss { node, moment })
+    }
+
+    #[test]
+    fn a_passed_plan_has_no_fault() {
+        let (job, plan) = (job(), plan_of(SAMPLE_1));
+        assert_eq!(fault_of(&job, &plan, None), None);
+        for node in 0..3 {
+            for moment in 0..14 {
+                assert_eq!(fault_of(&job, &plan, lost(node, moment)), None);
+            }
+        }
+    }
+
+    #[test]
+    fn a_common_loss_is_found() {
+        let plan = plan_of([[0, 0, 1, 5], [2, 10, 0, 15]]);
+        assert!(fault_of(&job(), &plan, lost(0, 3)).is_some_and(|text| text.contains("no copy")));
+    }
+
+    #[test]
+    fn a_late_finish_is_found() {
+        let mut job = job();
+        job.tasks[1].deadline = 11;
+        let plan = plan_of(SAMPLE_1);
+        assert!(fault_of(&job, &plan, lost(0, 3)).is_some_and(|text| text.contains("deadline")));
+    }
+
+    #[test]
+    fn an_overlap_is_found() {
+        let plan = plan_of([[0, 0, 2, 8], [0, 4, 2, 8]]);
+        let fault = fault_of(&without_link(), &plan, lost(0, 3));
+        assert!(fault.is_some_and(|text| text.contains("held node")));
+    }
+
+    #[test]
+    fn a_missing_input_is_found() {
+        // The rows say that both backups ran, but the result of the first comes too late.
+        let (job, plan) = (job(), plan_of([[0, 0, 1, 5], [0, 4, 2, 9]]));
+        let rows: Vec<u8> = [1u32, 2, 9, 0, 2, 12].into_iter().flat_map(u32::to_le_bytes).collect();
+        let fault = Survival::new(&job, &plan).fault(lost(0, 3), &rows);
+        assert!(fault.is_some_and(|text| text.contains("lacks")));
+    }
+}

@@ -1,0 +1,196 @@
+/* seqopchi.h: judge, planner and replay of rack plans, on byte buffers.
+ *
+ * A job file lists nodes, tasks and links. A plan file gives each task a
+ * primary and a backup copy. Each number in a file is 4 bytes, unsigned, low
+ * byte first; N is the job's task count and P its node count.
+ *
+ * POINTERS. These are the only conditions that a caller has to keep:
+ * - A pointer is valid for reading (job, plan) or for reading and writing
+ *   (out) of as many bytes as the length behind it says. The length of one
+ *   buffer is at most PTRDIFF_MAX, as for any object in C.
+ * - No pointer is null. With length 0 it may be any pointer that is not null;
+ *   nothing is read or written through it.
+ * - out overlaps neither job nor plan. job and plan may overlap each other.
+ * - No other thread writes to a buffer during the call.
+ * No pointer needs an alignment, and none is kept after the call. The functions
+ * keep no state, so calls from several threads need no lock.
+ *
+ * RESULTS. Every function returns one 8-byte number for every content of its
+ * buffers: 0 for success, otherwise a refusal with its number in the lowest 8
+ * bits, its first place in the next 32 and its second place in the top 24. The
+ * first fault in the order given at each function is the one returned. job and
+ * plan are never written. On a refusal every byte of out keeps its value; on
+ * success every byte of out behind the output keeps its value.
+ *
+ * READING. "The faults of the job" and "the faults of the plan" below are these,
+ * in file order, each with its byte offset from the start of that file as the
+ * first place and 0 as the second. The result does not say which of the two files
+ * is meant; seqopchi_plan with out_len 0 tells whether a job reads well.
+ *   1 short       fewer than 4 bytes are left for a number
+ *   2 version     the version is not 1
+ *   3 count       a count is outside its limits, or the plan's count is not N
+ *   4 value       any other number is outside its limits; also a link's to
+ *                 that is not above its from
+ *   5 link order  a link is not above the one before (offset of its from);
+ *                 only in a job, and found after the link's delay
+ *   6 tail        bytes follow the last section (offset of the first)
+ *   7 unable      a copy is planned on a node where its task has run time 0
+ *                 (offset of that node); only in a plan
+ */
+#ifndef SEQOPCHI_H
+#define SEQOPCHI_H
+
+#include <stddef.h>
+#include <stdint.h>
+
+#ifdef __cplusplus
+extern "C" {
+#endif
+
+/* Limits of both files. */
+#define SEQOPCHI_FILE_VERSION 1
+#define SEQOPCHI_MIN_NODES 2
+#define SEQOPCHI_MAX_NODES 16
+#define SEQOPCHI_MIN_TASKS 1
+#define SEQOPCHI_MAX_TASKS 64
+#define SEQOPCHI_MAX_LINKS 512
+#define SEQOPCHI_MAX_DETECT 1000
+#define SEQOPCHI_MIN_DEADLINE 1
+#define SEQOPCHI_MAX_TIME 1000000 /* deadlines, run times, delays and starts */
+
+/* Lengths in bytes of what is read and written. */
+#define SEQOPCHI_JOB_BYTES(nodes, tasks, links) \
+    (16 + 4 * (nodes) + 4 * (tasks) * (1 + (nodes)) + 12 * (links))
+#define SEQOPCHI_PLAN_BYTES(tasks) (8 + 16 * (tasks))
+#define SEQOPCHI_REPLAY_BYTES(tasks) (12 * (tasks))
+#define SEQOPCHI_MAX_JOB_BYTES 10576
+#define SEQOPCHI_MAX_PLAN_BYTES SEQOPCHI_PLAN_BYTES(SEQOPCHI_MAX_TASKS)
+#define SEQOPCHI_MAX_REPLAY_BYTES SEQOPCHI_REPLAY_BYTES(SEQOPCHI_MAX_TASKS)
+
+/* The number of a refusal, with its word and its places (first / second). */
+enum seqopchi_refusal {
+    SEQOPCHI_DONE = 0,                    /* success; 0 / 0 */
+    SEQOPCHI_REFUSED_SHORT = 1,           /* short; offset / 0 */
+    SEQOPCHI_REFUSED_VERSION = 2,         /* version; offset / 0 */
+    SEQOPCHI_REFUSED_COUNT = 3,           /* count; offset / 0 */
+    SEQOPCHI_REFUSED_VALUE = 4,           /* value; offset / 0 */
+    SEQOPCHI_REFUSED_LINK_ORDER = 5,      /* link order; offset / 0 */
+    SEQOPCHI_REFUSED_TAIL = 6,            /* tail; offset / 0 */
+    SEQOPCHI_REFUSED_UNABLE = 7,          /* unable; offset / 0 */
+    SEQOPCHI_REFUSED_SAME_NODE = 8,       /* same node; task / task */
+    SEQOPCHI_REFUSED_EARLY = 9,           /* early; task / task */
+    SEQOPCHI_REFUSED_LATE = 10,           /* late; task / task */
+    SEQOPCHI_REFUSED_PRIMARY_UNFED = 11,  /* primary unfed; from / to */
+    SEQOPCHI_REFUSED_BACKUP_UNFED = 12,   /* backup unfed; from / to */
+    SEQOPCHI_REFUSED_COMMON_LOSS = 13,    /* common loss; task / task */
+    SEQOPCHI_REFUSED_OVERLAP = 14,        /* overlap; lower task / higher task */
+    SEQOPCHI_REFUSED_NO_PRIMARY = 15,     /* no primary; task / task */
+    SEQOPCHI_REFUSED_NO_BACKUP = 16,      /* no backup; task / task */
+    SEQOPCHI_REFUSED_SHORT_BUFFER = 17,   /* short buffer; bytes needed / 0 */
+    SEQOPCHI_REFUSED_NO_SUCH_NODE = 18    /* no such node; that number / 0 */
+};
+
+/* What became of a copy, as replay writes it. */
+enum seqopchi_outcome {
+    SEQOPCHI_NOT_STARTED = 0,
+    SEQOPCHI_CUT = 1,
+    SEQOPCHI_FINISHED = 2
+};
+
+/* Whether plan keeps rules A to G for job. The delay from a copy of i to a copy of
+ * j is 0 on one node, else the link's. A link i to j is strong if backup i's finish
+ * plus delay is at most primary j's start, else weak. The fault set of a task, which
+ * document 01 calls its peril, is the nodes that hold its primary or the primary of
+ * a task from which a path of weak links leads to it. In this order:
+ *   1 to 6          the faults of the job
+ *   1 to 4, 6, 7    the faults of the plan
+ *   8 to 14         the first broken rule: A to G in turn, each over all tasks
+ *                   (links, pairs) in rising order
+ *   0               the plan is passed
+ *  8 same node      A: primary and backup on different nodes; task / task
+ *  9 early          B: a backup starts no sooner than its primary's finish plus
+ *                   the detect time of the primary's node; task / task
+ * 10 late           C: the backup finishes by the deadline; task / task
+ * 11 primary unfed  D: primary i's finish plus delay is at most primary j's
+ *                   start; link i / j
+ * 12 backup unfed   E: the finishes of primary i and backup i, each plus delay,
+ *                   are at most backup j's start; link i / j
+ * 13 common loss    F: the backup's node is not in the task's fault set; task / task
+ * 14 overlap        G: copies on one node do not overlap, except two backups
+ *                   whose fault sets have no common node; lower / higher task
+ */
+uint64_t seqopchi_judge(const uint8_t *job, size_t job_len,
+                        const uint8_t *plan, size_t plan_len);
+
+/* Plans job, task by task: each copy where it finishes earliest under the
+ * rules, then on the lowest node. In this order:
+ *   1 to 6  the faults of the job
+ *   17      out_len is below 8 + 16 N; 8 + 16 N / 0
+ *   15      no place for the primary of the first task that has none; task / task
+ *   16      no place for the backup of the first task that has none; task / task
+ *   0       the first 8 + 16 N bytes of out are a plan file, which
+ *           seqopchi_judge passes for this job
+ * With out_len 0 the result is thus 17 for each job that reads well, and the
+ * job's first fault for any other.
+ */
+uint64_t seqopchi_plan(const uint8_t *job, size_t job_len,
+                       uint8_t *out, size_t out_len);
+
+/* The run of plan with no loss, also where the judge would refuse the plan. In
+ * this order:
+ *   1 to 6        the faults of the job
+ *   1 to 4, 6, 7  the faults of the plan
+ *   17            out_len is below 12 N; 12 N / 0
+ *   0             the first 12 N bytes of out are three numbers for each task:
+ *                 the outcome of its primary, the outcome of its backup (enum
+ *                 seqopchi_outcome), and the finish of the finished copy (0
+ *                 if there is none)
+ */
+uint64_t seqopchi_replay(const uint8_t *job, size_t job_len,
+                         const uint8_t *plan, size_t plan_len,
+                         uint8_t *out, size_t out_len);
+
+/* The run of plan with node lost at moment; node and moment are any numbers.
+ * As seqopchi_replay, and between the faults of the plan and 17:
+ *   18  node is not below P; node / 0
+ * For a passed plan and a result of 0 each task has exactly one finished copy,
+ * with a finish from 1 to its deadline.
+ */
+uint64_t seqopchi_replay_loss(const uint8_t *job, size_t job_len,
+                              const uint8_t *plan, size_t plan_len,
+                              uint32_t node, uint32_t moment,
+                              uint8_t *out, size_t out_len);
+
+/* The parts of a result. */
+static inline unsigned seqopchi_number(uint64_t result)
+{
+    return (unsigned)(result & 0xff);
+}
+
+static inline uint32_t seqopchi_first(uint64_t result)
+{
+    return (uint32_t)(result >> 8 & 0xffffffff);
+}
+
+static inline uint32_t seqopchi_second(uint64_t result)
+{
+    return (uint32_t)(result >> 40);
+}
+
+/* The word of a refusal number, "done" for 0, "unknown" for any other number. */
+static inline const char *seqopchi_word(unsigned number)
+{
+    static const char *const words[] = {
+        "done", "short", "version", "count", "value", "link order", "tail",
+        "unable", "same node", "early", "late", "primary unfed",
+        "backup unfed", "common loss", "overlap", "no primary", "no backup",
+        "short buffer", "no such node"
+    };
+    return number < sizeof words / sizeof words[0] ? words[number] : "unknown";
+}
+
+#ifdef __cplusplus
+}
+#endif
+
+#endif

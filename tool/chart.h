@@ -1,0 +1,58 @@
+/* A chart: what is drawn, and where. */
+#ifndef TOOL_CHART_H
+#define TOOL_CHART_H
+
+#include "commands.h"
+#include "layout.h"
+#include "seqopchi.h"
+
+/* Measures in pixels. */
+enum {
+    LEFT = 92, RIGHT = 28, HEAD = 66, FLAG_ROW = 18,
+    ROW = 28, BAR = 22, LANE_EDGE = 6, AXIS = 40, LEGEND_ROW = 28,
+    PLOT_LEAST = 880, PLOT_MOST = 1880, BAR_LEAST = 26
+};
+
+/* A deadline's flag; its row is counted from the lanes upward. */
+struct flag {
+    uint32_t tick;
+    double from, to;
+    unsigned row;
+};
+
+struct chart {
+    const struct input *in;
+    const struct options *o;
+    struct file run;     /* replay's numbers; null data without a loss */
+    struct copy *copies; /* by node, then start */
+    unsigned *row;       /* of each copy, within its node's lane */
+    size_t count;
+    unsigned *rows;      /* of each node's lane, at least 1 */
+    double *lane;        /* top of each lane, then the bottom of the last */
+    struct flag *flags;  /* one for each tick that is a deadline */
+    size_t flag_count;
+    uint32_t nodes, tasks;
+    uint32_t step, last; /* of the axis; the last tick is a multiple of step */
+    double right;        /* edge of the plot */
+    struct buffer svg;
+};
+
+double x_of(const struct chart *c, uint32_t tick);
+bool is_lost(const struct chart *c, uint32_t node);
+
+/* What became of a copy; in a chart without a loss each counts as finished. */
+uint32_t outcome(const struct chart *c, const struct copy *copy);
+
+/* Finds a place for each flag; gives the height that they take together. */
+double place_flags(struct chart *c);
+
+void draw_styles(struct chart *c, double height);
+void draw_title(struct chart *c);
+void draw_lanes(struct chart *c);
+void draw_loss(struct chart *c);
+void draw_poles(struct chart *c);
+void draw_copies(struct chart *c);
+void draw_flags(struct chart *c);
+void draw_legend(struct chart *c);
+
+#endif

@@ -1,0 +1,305 @@
+/* The parts of a chart. Primaries are dark and backups hatched, what did not run
+ * is dashed and a cut is crossed, so that a print in grey tells them apart. */
+#include "chart.h"
+
+#include "refusal.h"
+
+#include <string.h>
+
+static const char styles[] =
+    "<style>\n"
+    "text{font-family:Helvetica,Arial,'Liberation Sans',sans-serif;"
+    "font-size:12px;fill:#222}\n"
+    ".title{font-size:18px;font-weight:bold}\n"
+    ".small{font-size:11px}\n"
+    ".node{font-size:13px;font-weight:bold}\n"
+    ".lane{fill:#f4f5f7}\n"
+    ".rule{stroke:#999;fill:none}\n"
+    ".grid{stroke:#dcdfe3;fill:none}\n"
+    ".pole{stroke:#222;stroke-dasharray:2 3;fill:none}\n"
+    ".flag{fill:#fff;stroke:#222}\n"
+    ".shared{fill:#e4d49a}\n"
+    ".gone{fill:url(#cross)}\n"
+    ".loss{stroke:#111;stroke-width:4;fill:none}\n"
+    ".primary{fill:#2f567d;stroke:#1b3550;stroke-width:1.5}\n"
+    ".backup{fill:url(#hatch);stroke:#8a5412;stroke-width:1.5}\n"
+    ".idle{fill:#fff;fill-opacity:.8;stroke:#777;stroke-dasharray:4 3}\n"
+    ".label{fill:#fff}\n"
+    ".on{fill:#fff;font-weight:bold;text-anchor:middle}\n"
+    ".off{text-anchor:middle}\n"
+    ".edge{stroke:#fff;stroke-width:6;fill:none;stroke-linecap:round}\n"
+    ".cut{stroke:#b00020;stroke-width:3;fill:none;stroke-linecap:round}\n"
+    "</style>\n"
+    "<defs>\n"
+    "<pattern id=\"hatch\" width=\"7\" height=\"7\" patternUnits=\"userSpaceOnUse\" "
+    "patternTransform=\"rotate(45)\"><rect width=\"7\" height=\"7\" fill=\"#fbf3e4\"/>"
+    "<rect width=\"2.2\" height=\"7\" fill=\"#d9a05b\"/></pattern>\n"
+    "<pattern id=\"cross\" width=\"9\" height=\"9\" patternUnits=\"userSpaceOnUse\">"
+    "<rect width=\"9\" height=\"9\" fill=\"#e3e3e3\"/>"
+    "<path d=\"M0 0L9 9M9 0L0 9\" stroke=\"#b5b5b5\"/></pattern>\n"
+    "</defs>\n";
+
+void draw_styles(struct chart *c, double height)
+{
+    double wide = c->right + RIGHT;
+
+    buffer_print(&c->svg, "<svg xmlns=\"http://www.w3.org/2000/svg\" role=\"img\" "
+                 "width=\"%.0f\" height=\"%.0f\" viewBox=\"0 0 %.0f %.0f\">\n",
+                 wide, height, wide, height);
+    buffer_add(&c->svg, styles, sizeof styles - 1);
+    buffer_print(&c->svg, "<rect width=\"%.0f\" height=\"%.0f\" fill=\"#fff\"/>\n",
+                 wide, height);
+}
+
+/* How many primaries, or how many backups, have an outcome. */
+static unsigned counted(const struct chart *c, uint32_t what, int backup)
+{
+    unsigned sum = 0;
+
+    for (size_t i = 0; i < c->count; i++)
+        if (outcome(c, &c->copies[i]) == what && c->copies[i].backup == backup)
+            sum++;
+    return sum;
+}
+
+static void add_subtitle(struct chart *c)
+{
+    const struct file *job = &c->in->job, *plan = &c->in->plan;
+    uint64_t result = seqopchi_judge(job->data, job->length, plan->data, plan->length);
+
+    if (c->o->lose)
+        buffer_print(&c->svg, "Primaries finished: %u. Backups finished: %u. "
+                     "Copies cut: %u. ", counted(c, SEQOPCHI_FINISHED, 0),
+                     counted(c, SEQOPCHI_FINISHED, 1),
+                     counted(c, SEQOPCHI_CUT, 0) + counted(c, SEQOPCHI_CUT, 1));
+    buffer_print(&c->svg, "The judge's answer to the plan: ");
+    if (result)
+        refusal_text(&c->svg, result, job, plan);
+    else
+        buffer_print(&c->svg, "passed");
+}
+
+static void add_title(struct chart *c)
+{
+    if (c->o->lose)
+        buffer_print(&c->svg, "Run with node %u lost at tick %u",
+                     (unsigned)c->o->node, (unsigned)c->o->tick);
+    else
+        buffer_print(&c->svg, "Plan");
+    buffer_print(&c->svg, ": %u tasks on %u nodes", (unsigned)c->tasks,
+                 (unsigned)c->nodes);
+}
+
+void draw_title(struct chart *c)
+{
+    buffer_print(&c->svg, "<title>");
+    add_title(c);
+    buffer_print(&c->svg, "</title>\n<text class=\"title\" x=\"16\" y=\"28\">");
+    add_title(c);
+    buffer_print(&c->svg, "</text>\n<text x=\"16\" y=\"48\">");
+    add_subtitle(c);
+    buffer_print(&c->svg, ".</text>\n");
+}
+
+/* The band behind the ticks that two backups of this node share. */
+static void draw_shared(struct chart *c, const struct copy *a, const struct copy *b)
+{
+    uint32_t from = a->start > b->start ? a->start : b->start;
+    uint32_t to = a->finish < b->finish ? a->finish : b->finish;
+    double top = c->lane[a->node], bottom = c->lane[a->node + 1];
+
+    if (a->node != b->node || !a->backup || !b->backup || from >= to)
+        return;
+    buffer_print(&c->svg, "<rect class=\"shared\" x=\"%.1f\" y=\"%.1f\" width=\"%.1f\" "
+                 "height=\"%.1f\"/>\n", x_of(c, from), top + 1,
+                 x_of(c, to) - x_of(c, from), bottom - top - 2);
+}
+
+static void draw_lane(struct chart *c, uint32_t node)
+{
+    double top = c->lane[node], bottom = c->lane[node + 1], middle = (top + bottom) / 2;
+
+    if (node % 2 == 0)
+        buffer_print(&c->svg, "<rect class=\"lane\" x=\"%d\" y=\"%.1f\" width=\"%.1f\" "
+                     "height=\"%.1f\"/>\n", LEFT, top, c->right - LEFT, bottom - top);
+    buffer_print(&c->svg, "<text class=\"node\" x=\"16\" y=\"%.1f\">node %u</text>\n"
+                 "<text class=\"small\" x=\"16\" y=\"%.1f\">", middle - 1,
+                 (unsigned)node, middle + 13);
+    if (is_lost(c, node))
+        buffer_print(&c->svg, "lost at %u</text>\n", (unsigned)c->o->tick);
+    else
+        buffer_print(&c->svg, "detect %u</text>\n",
+                     (unsigned)job_detect(&c->in->job, node));
+    buffer_print(&c->svg, "<path class=\"rule\" d=\"M16 %.1fH%.1f\"/>\n", bottom, c->right);
+}
+
+static void draw_axis(struct chart *c)
+{
+    double bottom = c->lane[c->nodes];
+
+    for (uint32_t tick = 0; tick <= c->last; tick += c->step)
+        buffer_print(&c->svg, "<path class=\"grid\" d=\"M%.1f %.1fV%.1f\"/>\n"
+                     "<text class=\"small\" x=\"%.1f\" y=\"%.1f\" "
+                     "text-anchor=\"middle\">%u</text>\n", x_of(c, tick), c->lane[0],
+                     bottom + 4, x_of(c, tick), bottom + 17, (unsigned)tick);
+    buffer_print(&c->svg, "<text class=\"small\" x=\"%d\" y=\"%.1f\" "
+                 "text-anchor=\"end\">tick</text>\n", LEFT - 12, bottom + 17);
+}
+
+void draw_lanes(struct chart *c)
+{
+    buffer_print(&c->svg, "<path class=\"rule\" d=\"M16 %.1fH%.1f\"/>\n",
+                 c->lane[0], c->right);
+    for (uint32_t node = 0; node < c->nodes; node++)
+        draw_lane(c, node);
+    for (size_t i = 0; i < c->count; i++)
+        for (size_t k = i + 1; k < c->count; k++)
+            draw_shared(c, &c->copies[i], &c->copies[k]);
+    draw_axis(c);
+}
+
+/* Behind the loss the lane is gone; a loss behind the axis leaves no mark. */
+void draw_loss(struct chart *c)
+{
+    double x, top, bottom;
+
+    if (!c->o->lose || c->o->tick > c->last)
+        return;
+    x = x_of(c, c->o->tick);
+    top = c->lane[c->o->node];
+    bottom = c->lane[c->o->node + 1];
+    buffer_print(&c->svg, "<rect class=\"gone\" x=\"%.1f\" y=\"%.1f\" width=\"%.1f\" "
+                 "height=\"%.1f\"/>\n<path class=\"loss\" d=\"M%.1f %.1fV%.1f\"/>\n",
+                 x, top + 1, c->right - x, bottom - top - 2, x, top, bottom);
+}
+
+static void draw_bar(struct chart *c, const char *class, double from, double to,
+                     double top)
+{
+    buffer_print(&c->svg, "<rect class=\"%s\" x=\"%.1f\" y=\"%.1f\" width=\"%.1f\" "
+                 "height=\"%d\" rx=\"2\"/>\n", class, from + .5, top,
+                 to - from > 2 ? to - from - 1 : 1.0, BAR);
+}
+
+/* With a white edge, to be seen on a dark bar. */
+static void draw_cross(struct chart *c, double x, double y)
+{
+    static const char *const class[] = { "edge", "cut" };
+
+    for (int i = 0; i < 2; i++)
+        buffer_print(&c->svg, "<path class=\"%s\" d=\"M%.1f %.1fl10 10m0 -10"
+                     "l-10 10\"/>\n", class[i], x - 5, y - 5);
+}
+
+/* In the middle of a part of a bar; none where it would not fit. On the dark bar
+ * of a primary it is white, on a hatched one it has a white patch. */
+static void draw_label(struct chart *c, const struct copy *copy, double from, double to,
+                       double top, bool active)
+{
+    double middle = (from + to) / 2, wide = copy->task > 9 ? 26 : 19;
+
+    if (to - from < wide)
+        return;
+    if (active && copy->backup)
+        buffer_print(&c->svg, "<rect class=\"label\" x=\"%.1f\" y=\"%.1f\" "
+                     "width=\"%.1f\" height=\"16\" rx=\"2\"/>\n", middle - wide / 2,
+                     top + 3, wide);
+    buffer_print(&c->svg, "<text class=\"%s\" x=\"%.1f\" y=\"%.1f\">%s%u</text>\n",
+                 active && !copy->backup ? "on" : "off", middle, top + 15.5,
+                 copy->backup ? "B" : "P", (unsigned)copy->task);
+}
+
+/* A hint for those who point at the copy. */
+static void add_hint(struct chart *c, const struct copy *copy)
+{
+    buffer_print(&c->svg, "<title>%s of task %u: node %u, %u to %u, deadline %u",
+                 copy->backup ? "backup" : "primary", (unsigned)copy->task,
+                 (unsigned)copy->node, (unsigned)copy->start, (unsigned)copy->finish,
+                 (unsigned)job_deadline(&c->in->job, copy->task));
+    if (c->o->lose)
+        buffer_print(&c->svg, ", %s", outcome_word(outcome(c, copy)));
+    buffer_print(&c->svg, "</title>\n");
+}
+
+/* The part that ran, the part that did not, and the cut between them; the label
+ * stands in the wider part. */
+static void draw_cut(struct chart *c, const struct copy *copy, double top)
+{
+    double from = x_of(c, copy->start), to = x_of(c, copy->finish);
+    double at = x_of(c, c->o->tick);
+
+    draw_bar(c, "idle", from, to, top);
+    draw_bar(c, copy->backup ? "backup" : "primary", from, at, top);
+    if (at - from > to - at)
+        draw_label(c, copy, from, at - 6, top, true);
+    else
+        draw_label(c, copy, at + 6, to, top, false);
+    draw_cross(c, at, top + BAR / 2.0);
+}
+
+static void draw_copy(struct chart *c, size_t i)
+{
+    const struct copy *copy = &c->copies[i];
+    const char *class = copy->backup ? "backup" : "primary";
+    double from = x_of(c, copy->start), to = x_of(c, copy->finish);
+    double top = c->lane[copy->node] + LANE_EDGE + ROW * c->row[i] + (ROW - BAR) / 2.0;
+    bool finished = outcome(c, copy) == SEQOPCHI_FINISHED;
+
+    buffer_print(&c->svg, "<g>");
+    add_hint(c, copy);
+    if (outcome(c, copy) == SEQOPCHI_CUT) {
+        draw_cut(c, copy, top);
+    } else {
+        draw_bar(c, finished ? class : "idle", from, to, top);
+        draw_label(c, copy, from, to, top, finished);
+    }
+    buffer_print(&c->svg, "</g>\n");
+}
+
+void draw_copies(struct chart *c)
+{
+    for (size_t i = 0; i < c->count; i++)
+        draw_copy(c, i);
+}
+
+static double legend_top(const struct chart *c)
+{
+    return c->lane[c->nodes] + AXIS - 8;
+}
+
+/* The words of a legend entry; gives the place of the next. */
+static double draw_meaning(struct chart *c, double x, const char *what)
+{
+    buffer_print(&c->svg, "<text class=\"small\" x=\"%.1f\" y=\"%.1f\">%s</text>\n",
+                 x, legend_top(c) + 12, what);
+    return x + 6.0 * (double)strlen(what) + 18;
+}
+
+/* An entry with a box of the class as its sample. */
+static double draw_entry(struct chart *c, double x, const char *class, const char *what)
+{
+    buffer_print(&c->svg, "<rect class=\"%s\" x=\"%.1f\" y=\"%.1f\" width=\"28\" "
+                 "height=\"16\"/>\n", class, x, legend_top(c));
+    return draw_meaning(c, x + 34, what);
+}
+
+void draw_legend(struct chart *c)
+{
+    double x = LEFT;
+
+    if (!c->o->lose) {
+        x = draw_entry(c, x, "primary", "primary");
+        x = draw_entry(c, x, "backup", "backup");
+    } else {
+        x = draw_entry(c, x, "primary", "primary, finished");
+        x = draw_entry(c, x, "backup", "backup, finished");
+        draw_cross(c, x + 6, legend_top(c) + 8);
+        x = draw_meaning(c, x + 18, "cut");
+        x = draw_entry(c, x, "idle", "not started");
+        x = draw_entry(c, x, "gone", "node lost");
+    }
+    x = draw_entry(c, x, "shared", "time shared by backups");
+    buffer_print(&c->svg, "<path class=\"pole\" d=\"M%.1f %.1fv16\"/>\n", x + 2,
+                 legend_top(c));
+    draw_meaning(c, x + 9, "deadline");
+}

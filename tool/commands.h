@@ -1,0 +1,45 @@
+/* The commands of the tool. Each gives the exit status. */
+#ifndef TOOL_COMMANDS_H
+#define TOOL_COMMANDS_H
+
+#include "files.h"
+
+/* What stood on the command line behind the command's name. */
+struct options {
+    const char *path[2];
+    int paths;
+    const char *output; /* "-" where none was given */
+    const char *job;    /* null where none was given */
+    bool lose;
+    uint32_t node, tick;
+};
+
+int run_plan(const struct options *o);
+int run_judge(const struct options *o);
+int run_replay(const struct options *o);
+int run_list(const struct options *o);
+int run_show(const struct options *o);
+int run_pack(const struct options *o);
+int run_unpack(const struct options *o);
+int run_chart(const struct options *o);
+
+/* A job, and a plan where there is one, as they stand in the files. */
+struct input {
+    struct file job, plan;
+    bool planned; /* whether a plan was given */
+};
+
+/* Reads the files named on the command line: 0, or 2 after a message. */
+int read_input(struct input *in, const struct options *o);
+/* The same, then asks the library whether they read well: 1 after a refusal. */
+int read_readable(struct input *in, const struct options *o);
+void free_input(struct input *in);
+
+/* The run of a readable plan, from replay: three numbers for each task. */
+int replayed(struct file *run, const struct input *in, const struct options *o);
+const char *outcome_word(uint32_t outcome);
+
+/* Writes the text, frees it, and gives the exit status. */
+int finish_output(const struct options *o, struct buffer *text);
+
+#endif

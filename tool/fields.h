@@ -1,0 +1,18 @@
+/* What the number at a byte offset of a job or plan file is. */
+#ifndef TOOL_FIELDS_H
+#define TOOL_FIELDS_H
+
+#include "files.h"
+
+struct field {
+    char name[64];
+    uint32_t low, high; /* what is allowed there, for the reader of a message */
+};
+
+/* Every number before the offset is without fault, as it is in a first fault. */
+struct field job_field(const struct file *job, size_t at);
+
+/* The same in a plan, behind a job that reads well. */
+struct field plan_field(const struct file *job, size_t at);
+
+#endif

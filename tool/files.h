@@ -1,0 +1,29 @@
+/* Files read whole and written whole or not at all; "-" is a standard stream. */
+#ifndef TOOL_FILES_H
+#define TOOL_FILES_H
+
+#include "buffer.h"
+
+#include <stdbool.h>
+
+struct file {
+    const char *name;      /* for messages */
+    uint8_t *data;         /* exactly length bytes, never null */
+    size_t length;
+    const unsigned *lines; /* for a packed text: the line of each number, or 0 */
+};
+
+/* Says what went wrong on standard error; gives the exit status 2. */
+int failed(const char *format, ...) __attribute__((format(printf, 1, 2)));
+
+/* Whether a path is "-", a standard stream. */
+bool is_dash(const char *path);
+
+/* The first bytes of a file, at most `most`. 0, or 2 after a message. */
+int file_read(struct file *f, const char *path, size_t most);
+void file_free(struct file *f);
+
+/* 0, or 2 after a message. */
+int file_write(const char *path, const void *data, size_t length);
+
+#endif

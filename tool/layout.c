@@ -1,0 +1,124 @@
+/* Where each number of a job or plan file stands. */
+#include "layout.h"
+
+#include <stdlib.h>
+
+/* The test is no verdict on the file: it keeps this program inside its memory
+ * whatever it is linked with. */
+uint32_t number_at(const struct file *f, size_t at)
+{
+    const uint8_t *b;
+
+    if (f->length < 4 || at > f->length - 4)
+        exit(failed("'%s' has no number at byte %zu", f->name, at));
+    b = f->data + at;
+    return b[0] | (uint32_t)b[1] << 8 | (uint32_t)b[2] << 16 | (uint32_t)b[3] << 24;
+}
+
+uint32_t job_nodes(const struct file *job)
+{
+    return number_at(job, 4);
+}
+
+uint32_t job_detect(const struct file *job, uint32_t node)
+{
+    return number_at(job, 8 + 4 * (size_t)node);
+}
+
+size_t task_count_at(const struct file *job)
+{
+    return 8 + 4 * (size_t)job_nodes(job);
+}
+
+uint32_t job_tasks(const struct file *job)
+{
+    return number_at(job, task_count_at(job));
+}
+
+size_t task_at(const struct file *job, uint32_t task)
+{
+    return task_count_at(job) + 4 + 4 * (size_t)task * (1 + (size_t)job_nodes(job));
+}
+
+uint32_t job_deadline(const struct file *job, uint32_t task)
+{
+    return number_at(job, task_at(job, task));
+}
+
+uint32_t job_run_time(const struct file *job, uint32_t task, uint32_t node)
+{
+    return number_at(job, task_at(job, task) + 4 + 4 * (size_t)node);
+}
+
+size_t link_count_at(const struct file *job)
+{
+    return task_at(job, job_tasks(job));
+}
+
+uint32_t job_links(const struct file *job)
+{
+    return number_at(job, link_count_at(job));
+}
+
+size_t link_at(const struct file *job, uint32_t link)
+{
+    return link_count_at(job) + 4 + 12 * (size_t)link;
+}
+
+struct link job_link(const struct file *job, uint32_t link)
+{
+    size_t at = link_at(job, link);
+    struct link l;
+
+    l.from = number_at(job, at);
+    l.to = number_at(job, at + 4);
+    l.delay = number_at(job, at + 8);
+    return l;
+}
+
+struct copy plan_copy(const struct file *job, const struct file *plan,
+                      uint32_t task, int backup)
+{
+    size_t at = 8 + 16 * (size_t)task + (backup ? 8 : 0);
+    struct copy c;
+
+    c.task = task;
+    c.backup = backup;
+    c.node = number_at(plan, at);
+    c.start = number_at(plan, at + 4);
+    c.finish = c.start + job_run_time(job, task, c.node);
+    return c;
+}
+
+static int by_value(uint32_t a, uint32_t b)
+{
+    return (a > b) - (a < b);
+}
+
+static int by_node_and_start(const void *left, const void *right)
+{
+    const struct copy *a = left, *b = right;
+
+    if (a->node != b->node)
+        return by_value(a->node, b->node);
+    if (a->start != b->start)
+        return by_value(a->start, b->start);
+    if (a->task != b->task)
+        return by_value(a->task, b->task);
+    return a->backup - b->backup;
+}
+
+struct copy *plan_copies(const struct file *job, const struct file *plan,
+                         size_t *count)
+{
+    uint32_t tasks = job_tasks(job);
+    struct copy *copies = allocated(2 * (size_t)tasks * sizeof *copies);
+
+    *count = 2 * (size_t)tasks;
+    for (uint32_t task = 0; task < tasks; task++) {
+        copies[2 * task] = plan_copy(job, plan, task, 0);
+        copies[2 * task + 1] = plan_copy(job, plan, task, 1);
+    }
+    qsort(copies, *count, sizeof *copies, by_node_and_start);
+    return copies;
+}

@@ -1,0 +1,42 @@
+/* Where each number of a job or plan file stands. The library has said that the
+ * file reads well, or that the part before the number read is without fault. */
+#ifndef TOOL_LAYOUT_H
+#define TOOL_LAYOUT_H
+
+#include "files.h"
+
+/* The numbers of one copy; its finish is the start plus the run time. */
+struct copy {
+    uint32_t task, node, start, finish;
+    int backup;
+};
+
+struct link {
+    uint32_t from, to, delay;
+};
+
+uint32_t number_at(const struct file *f, size_t at);
+
+uint32_t job_nodes(const struct file *job);
+uint32_t job_detect(const struct file *job, uint32_t node);
+uint32_t job_tasks(const struct file *job);
+uint32_t job_deadline(const struct file *job, uint32_t task);
+uint32_t job_run_time(const struct file *job, uint32_t task, uint32_t node);
+uint32_t job_links(const struct file *job);
+struct link job_link(const struct file *job, uint32_t link);
+
+/* Offsets at which the sections and their rows begin. */
+size_t task_count_at(const struct file *job);
+size_t task_at(const struct file *job, uint32_t task);
+size_t link_count_at(const struct file *job);
+size_t link_at(const struct file *job, uint32_t link);
+
+struct copy plan_copy(const struct file *job, const struct file *plan,
+                      uint32_t task, int backup);
+
+/* All copies of a plan by node, then start, then task, primary before backup.
+ * The caller frees them. */
+struct copy *plan_copies(const struct file *job, const struct file *plan,
+                         size_t *count);
+
+#endif

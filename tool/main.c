@@ -1,0 +1,204 @@
+/* seqopchi: the command line over judge, planner and replay. */
+#include "commands.h"
+
+#include "text.h"
+
+#include <signal.h>
+#include <stdio.h>
+#include <string.h>
+
+#define TOOL_VERSION "1.0"
+
+enum { OUTPUT = 1, OUTPUT_DUE = 2, LOSS = 4, JOB = 8 };
+
+struct command {
+    const char *name;
+    int (*run)(const struct options *o);
+    int least, most; /* file names */
+    int takes;       /* options */
+    const char *usage, *subject, *help;
+};
+
+static const struct command commands[] = {
+    { "plan", run_plan, 1, 1, OUTPUT | OUTPUT_DUE, "plan JOB -o PLAN",
+      "plan a job",
+      "Plans the job and writes the plan file.\n" },
+    { "judge", run_judge, 2, 2, OUTPUT, "judge JOB PLAN",
+      "judge a plan for its job",
+      "Prints 'passed' if the plan keeps every rule.\n" },
+    { "replay", run_replay, 2, 2, OUTPUT | LOSS,
+      "replay JOB PLAN [--lose NODE@TICK]",
+      "run a plan, with or without the loss of a node",
+      "Prints what becomes of each copy, without a loss or with the loss of\n"
+      "node NODE at tick TICK. The plan need not pass the judge.\n" },
+    { "list", run_list, 1, 1, OUTPUT, "list JOB",
+      "plan a job and print the listing",
+      "Prints a line for each task: task, primary node, start, backup node,\n"
+      "start. After a refusal it prints 'refused', number and both places.\n" },
+    { "show", run_show, 1, 2, OUTPUT, "show JOB [PLAN]",
+      "print a job, and a plan, as readable text",
+      "Prints the job and, with a plan, the judge's answer, the places by task\n"
+      "and the copies of each node in order of time.\n" },
+    { "pack", run_pack, 1, 1, OUTPUT | OUTPUT_DUE | JOB,
+      "pack TEXT -o FILE [--job JOB]",
+      "make a job or plan file from text",
+      "Writes the file that the text stands for; its first word says whether it\n"
+      "is a job or a plan. A job must read well, and so must a plan if its job\n"
+      "is named by --job. The text form is described in tool/TEXT.md.\n" },
+    { "unpack", run_unpack, 1, 2, OUTPUT, "unpack JOB [PLAN] [-o TEXT]",
+      "make text from a job or plan file",
+      "Prints the text form of the job or, if a plan is given, of the plan.\n" },
+    { "chart", run_chart, 2, 2, OUTPUT | OUTPUT_DUE | LOSS,
+      "chart JOB PLAN [--lose NODE@TICK] -o FILE.svg",
+      "draw a plan, or its run with the loss of a node",
+      "Draws a lane for each node with its copies and deadlines. With --lose it\n"
+      "draws the run: what was finished, cut and not started.\n" },
+};
+
+enum { COMMANDS = sizeof commands / sizeof commands[0] };
+
+static const char closing[] =
+    "\nFILES named - are standard input or output. An output file appears whole\n"
+    "or not at all. Exit status: 0 success; 1 refused, with the reason on standard\n"
+    "error; 2 wrong usage, or a file that could not be read or written.\n";
+
+static int print(const char *text, size_t length)
+{
+    return file_write("-", text, length);
+}
+
+static int general_help(void)
+{
+    struct buffer b = { NULL, 0, 0 };
+    int status;
+
+    buffer_print(&b, "Usage: seqopchi COMMAND FILES..\n"
+                     "Rack plans with a standby for every task.\n\n");
+    for (int i = 0; i < COMMANDS; i++)
+        buffer_print(&b, "  %-47s %s\n", commands[i].usage, commands[i].subject);
+    buffer_print(&b, "\n'seqopchi COMMAND --help' tells more of each; "
+                     "'seqopchi --version' tells the version.\n%s", closing);
+    status = print(b.data, b.length);
+    buffer_free(&b);
+    return status;
+}
+
+static int command_help(const struct command *c)
+{
+    struct buffer b = { NULL, 0, 0 };
+    int status;
+
+    buffer_print(&b, "Usage: seqopchi %s\n%s", c->usage, c->help);
+    if (!(c->takes & OUTPUT_DUE))
+        buffer_print(&b, "-o FILE writes to a file instead of standard output.\n");
+    buffer_print(&b, "%s", closing);
+    status = print(b.data, b.length);
+    buffer_free(&b);
+    return status;
+}
+
+static int wrong_usage(const struct command *c, const char *what, const char *word)
+{
+    if (word)
+        failed("%s '%s'", what, word);
+    else
+        failed("%s", what);
+    if (c)
+        fprintf(stderr, "Usage: seqopchi %s\n", c->usage);
+    else
+        fputs("'seqopchi --help' lists the commands\n", stderr);
+    return 2;
+}
+
+/* NODE@TICK, each any 4-byte number: the library says whether there is the node. */
+static bool parse_loss(struct options *o, const char *word)
+{
+    const char *sign = strchr(word, '@');
+
+    o->lose = true;
+    return sign && parse_number(word, (size_t)(sign - word), &o->node)
+        && parse_number(sign + 1, strlen(sign + 1), &o->tick);
+}
+
+/* The option at words[0], whose value is words[1]: 0, or 2 after a message. */
+static int take_option(const struct command *c, struct options *o, char **words)
+{
+    bool is_output = strcmp(words[0], "-o") == 0 && c->takes & OUTPUT;
+    bool is_loss = strcmp(words[0], "--lose") == 0 && c->takes & LOSS;
+    bool is_job = strcmp(words[0], "--job") == 0 && c->takes & JOB;
+
+    if (!is_output && !is_loss && !is_job)
+        return wrong_usage(c, "there is no option", words[0]);
+    if (!words[1])
+        return wrong_usage(c, "a value is missing behind", words[0]);
+    if ((is_output && o->output) || (is_loss && o->lose) || (is_job && o->job))
+        return wrong_usage(c, "given twice:", words[0]);
+    if (is_output)
+        o->output = words[1];
+    else if (is_job)
+        o->job = words[1];
+    else if (!parse_loss(o, words[1]))
+        return wrong_usage(c, "expected NODE@TICK in base ten, found", words[1]);
+    return 0;
+}
+
+static int take_path(const struct command *c, struct options *o, const char *word)
+{
+    if (o->paths == c->most)
+        return wrong_usage(c, "one file name too many:", word);
+    o->path[o->paths++] = word;
+    return 0;
+}
+
+static int check_options(const struct command *c, struct options *o)
+{
+    if (o->paths < c->least)
+        return wrong_usage(c, "a file name is missing", NULL);
+    if (!o->output && c->takes & OUTPUT_DUE)
+        return wrong_usage(c, "-o FILE is missing", NULL);
+    if (is_dash(o->path[0]) && ((o->paths > 1 && is_dash(o->path[1]))
+                                || (o->job && is_dash(o->job))))
+        return wrong_usage(c, "standard input can be only one of the files", NULL);
+    if (!o->output)
+        o->output = "-";
+    return 0;
+}
+
+static int run_command(const struct command *c, char **words)
+{
+    struct options o = { { NULL, NULL }, 0, NULL, NULL, false, 0, 0 };
+    bool options_end = false;
+    int status = 0;
+
+    for (; *words && status == 0; words++) {
+        if (options_end || (*words)[0] != '-' || is_dash(*words))
+            status = take_path(c, &o, *words);
+        else if (strcmp(*words, "--help") == 0)
+            return command_help(c);
+        else if (strcmp(*words, "--") == 0)
+            options_end = true;
+        else if ((status = take_option(c, &o, words)) == 0)
+            words++;
+    }
+    if (status == 0)
+        status = check_options(c, &o);
+    return status ? status : c->run(&o);
+}
+
+int main(int argc, char **argv)
+{
+    static const char version[] = "seqopchi " TOOL_VERSION
+        ", for job and plan files of version 1\n";
+
+    signal(SIGPIPE, SIG_IGN); /* a closed pipe is a failed write */
+    if (argc < 2)
+        return wrong_usage(NULL, "a command is missing", NULL);
+    if (strcmp(argv[1], "--help") == 0)
+        return general_help();
+    if (strcmp(argv[1], "--version") == 0)
+        return print(version, sizeof version - 1);
+    for (int i = 0; i < COMMANDS; i++)
+        if (strcmp(argv[1], commands[i].name) == 0)
+            return run_command(&commands[i], argv + 2);
+    return wrong_usage(NULL, "there is no command", argv[1]);
+}

@@ -1,0 +1,20 @@
+/* The library's answers, and a refusal as a sentence. */
+#ifndef TOOL_REFUSAL_H
+#define TOOL_REFUSAL_H
+
+#include "files.h"
+#include "seqopchi.h"
+
+/* Whether a job reads well, and whether job and plan do: 0 or the refusal. */
+uint64_t ask_job(const struct file *job);
+uint64_t ask_files(const struct file *job, const struct file *plan);
+
+/* "refused 4 (value): byte 12 of .." without a line end. plan is null where
+ * only a job was given. */
+void refusal_text(struct buffer *b, uint64_t result,
+                  const struct file *job, const struct file *plan);
+
+/* The same on standard error; gives the exit status 1. */
+int refused(uint64_t result, const struct file *job, const struct file *plan);
+
+#endif

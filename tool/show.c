@@ -1,0 +1,133 @@
+/* show: a job, and a plan with the judge's answer, as readable text. */
+#include "commands.h"
+
+#include "layout.h"
+#include "refusal.h"
+
+#include <stdlib.h>
+
+static void add_nodes(struct buffer *b, const struct file *job)
+{
+    uint32_t nodes = job_nodes(job);
+
+    buffer_print(b, "\nnode  detect\n");
+    for (uint32_t node = 0; node < nodes; node++)
+        buffer_print(b, "%4u  %6u\n", (unsigned)node,
+                     (unsigned)job_detect(job, node));
+}
+
+static void add_tasks(struct buffer *b, const struct file *job)
+{
+    uint32_t nodes = job_nodes(job), tasks = job_tasks(job);
+
+    buffer_print(b, "\ntask  deadline  run time on");
+    for (uint32_t node = 0; node < nodes; node++)
+        buffer_print(b, node ? "  %7u" : " node %u", (unsigned)node);
+    buffer_print(b, "\n");
+    for (uint32_t task = 0; task < tasks; task++) {
+        buffer_print(b, "%4u  %8u           ", (unsigned)task,
+                     (unsigned)job_deadline(job, task));
+        for (uint32_t node = 0; node < nodes; node++) {
+            uint32_t run = job_run_time(job, task, node);
+
+            if (run > 0)
+                buffer_print(b, "  %7u", (unsigned)run);
+            else
+                buffer_print(b, "  %7s", "-");
+        }
+        buffer_print(b, "\n");
+    }
+}
+
+static void add_links(struct buffer *b, const struct file *job)
+{
+    uint32_t links = job_links(job);
+
+    if (links == 0)
+        return;
+    buffer_print(b, "\nlink  from    to    delay\n");
+    for (uint32_t k = 0; k < links; k++) {
+        struct link link = job_link(job, k);
+
+        buffer_print(b, "%4u  %4u  %4u  %7u\n", (unsigned)k, (unsigned)link.from,
+                     (unsigned)link.to, (unsigned)link.delay);
+    }
+}
+
+static void add_job(struct buffer *b, const struct file *job)
+{
+    buffer_print(b, "job: nodes %u, tasks %u, links %u\n",
+                 (unsigned)job_nodes(job), (unsigned)job_tasks(job),
+                 (unsigned)job_links(job));
+    add_nodes(b, job);
+    add_tasks(b, job);
+    add_links(b, job);
+}
+
+static void add_verdict(struct buffer *b, const struct input *in)
+{
+    uint64_t result = seqopchi_judge(in->job.data, in->job.length,
+                                     in->plan.data, in->plan.length);
+
+    buffer_print(b, "\nplan, by the judge: ");
+    if (result)
+        refusal_text(b, result, &in->job, &in->plan);
+    else
+        buffer_print(b, "passed");
+    buffer_print(b, "\n");
+}
+
+static void add_places(struct buffer *b, const struct input *in)
+{
+    uint32_t tasks = job_tasks(&in->job);
+
+    buffer_print(b, "\ntask  primary on     from       to"
+                    "  backup on     from       to  deadline\n");
+    for (uint32_t task = 0; task < tasks; task++) {
+        struct copy p = plan_copy(&in->job, &in->plan, task, 0);
+        struct copy q = plan_copy(&in->job, &in->plan, task, 1);
+
+        buffer_print(b, "%4u  %10u  %7u  %7u  %9u  %7u  %7u  %8u\n",
+                     (unsigned)task, (unsigned)p.node, (unsigned)p.start,
+                     (unsigned)p.finish, (unsigned)q.node, (unsigned)q.start,
+                     (unsigned)q.finish,
+                     (unsigned)job_deadline(&in->job, task));
+    }
+}
+
+static void add_lanes(struct buffer *b, const struct input *in)
+{
+    size_t count, next = 0;
+    struct copy *copies = plan_copies(&in->job, &in->plan, &count);
+    uint32_t nodes = job_nodes(&in->job);
+
+    for (uint32_t node = 0; node < nodes; node++) {
+        buffer_print(b, "\nnode %u%s\n", (unsigned)node,
+                     next < count && copies[next].node == node ? "" : ": empty");
+        for (; next < count && copies[next].node == node; next++)
+            buffer_print(b, "  %7u to %7u  %s of task %u\n",
+                         (unsigned)copies[next].start,
+                         (unsigned)copies[next].finish,
+                         copies[next].backup ? "backup " : "primary",
+                         (unsigned)copies[next].task);
+    }
+    free(copies);
+}
+
+int run_show(const struct options *o)
+{
+    struct input in;
+    struct buffer text = { NULL, 0, 0 };
+    int status = read_readable(&in, o);
+
+    if (status)
+        return status;
+    add_job(&text, &in.job);
+    if (in.planned) {
+        add_verdict(&text, &in);
+        add_places(&text, &in);
+        add_lanes(&text, &in);
+    }
+    free_input(&in);
+    return finish_output(o, &text);
+}

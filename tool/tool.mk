@@ -1,0 +1,66 @@
+# The command line tool, its tests and the demo: included by the Makefile.
+.PHONY: tool demo charts test-tool
+
+SEQOPCHI_LIB ?= build/libseqopchi.a
+TOOL_SOURCES := $(sort $(wildcard tool/*.c))
+TOOL_HEADERS := $(wildcard tool/*.h) include/seqopchi.h
+TOOL_WARNINGS := -Wall -Wextra -Wpedantic -Werror
+TOOL_FLAGS := -std=c99 -D_XOPEN_SOURCE=700 -Iinclude $(TOOL_WARNINGS)
+TOOL_SANITIZE := -O1 -g -fsanitize=address,undefined -fno-sanitize-recover=all
+DEMO_LOSS := 1@16
+
+tool: build/seqopchi
+
+# Proved and built anew when a source or a proof has changed. The copy outlives
+# 'rt ci', which removes target/.
+build/libseqopchi.a: $(shell find crates -type f 2>/dev/null)
+	rt staticlib seqopchi
+	@mkdir -p build
+	cp target/staticlib/libseqopchi.a $@
+
+build/seqopchi: $(TOOL_SOURCES) $(TOOL_HEADERS) $(SEQOPCHI_LIB)
+	@mkdir -p build
+	$(CC) -O2 $(TOOL_FLAGS) $(TOOL_SOURCES) $(SEQOPCHI_LIB) -o $@
+
+build/seqopchi-sanitized: $(TOOL_SOURCES) $(TOOL_HEADERS) $(SEQOPCHI_LIB)
+	@mkdir -p build
+	$(CC) $(TOOL_SANITIZE) $(TOOL_FLAGS) $(TOOL_SOURCES) $(SEQOPCHI_LIB) -o $@
+
+# The header by itself, as C and as C++.
+build/header-checked: include/seqopchi.h
+	@mkdir -p build
+	echo '#include "seqopchi.h"' >build/header.c
+	$(CC) $(TOOL_FLAGS) -fsyntax-only build/header.c
+	$(CXX) -std=c++11 -Iinclude $(TOOL_WARNINGS) -x c++ -fsyntax-only build/header.c
+	@touch $@
+
+test-tool: build/seqopchi-sanitized build/header-checked
+	tool/test.sh build/seqopchi-sanitized
+
+# A class's oscilloscope captures: planned, listed, one node lost, two charts.
+demo: build/seqopchi
+	@mkdir -p demo
+	@build/seqopchi pack examples/oscilloscope.txt -o demo/oscilloscope.job
+	@build/seqopchi plan demo/oscilloscope.job -o demo/oscilloscope.plan
+	@build/seqopchi list demo/oscilloscope.job
+	@echo
+	@build/seqopchi replay demo/oscilloscope.job demo/oscilloscope.plan \
+		--lose $(DEMO_LOSS)
+	@build/seqopchi chart demo/oscilloscope.job demo/oscilloscope.plan \
+		-o demo/plan.svg
+	@build/seqopchi chart demo/oscilloscope.job demo/oscilloscope.plan \
+		--lose $(DEMO_LOSS) -o demo/loss.svg
+	@echo
+	@echo "The charts are demo/plan.svg and demo/loss.svg."
+
+# The charts that the README shows. tool/test.sh holds them to what the tool draws.
+charts: build/seqopchi
+	@mkdir -p demo
+	build/seqopchi pack examples/oscilloscope.txt -o demo/oscilloscope.job
+	build/seqopchi plan demo/oscilloscope.job -o demo/oscilloscope.plan
+	build/seqopchi pack examples/oscilloscope-passed.txt \
+		--job demo/oscilloscope.job -o demo/passed.plan
+	build/seqopchi chart demo/oscilloscope.job demo/oscilloscope.plan \
+		-o examples/oscilloscope-plan.svg
+	build/seqopchi chart demo/oscilloscope.job demo/passed.plan \
+		--lose $(DEMO_LOSS) -o examples/oscilloscope-loss.svg
