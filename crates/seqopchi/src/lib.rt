@@ -16,11 +16,11 @@ fn plan_file(job: &[u8], out: &mut [u8]) -> Answer
     let Answer::Done = bad_job else {
         return bad_job;
     };
-    let value = read.job;
-    let need = 8 + 16 * (value.task_count as usize);
+    let need = 8 + 16 * (read.job.task_count as usize);
     if out.len() < need {
         return Answer::Refused(Refusal::ShortBuffer(need));
     }
+    let value = read.job;
     let planned = plan_job(value);
     let no_place = planned.answer;
     let Answer::Done = no_place else {
