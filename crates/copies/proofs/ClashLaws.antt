@@ -135,7 +135,7 @@ pairs j t =
         ]
 
 -- an entry clashes exactly if it overlaps and the sets meet
-clashes-is : (m : ℕ) (c e : Copy) (z : ℕ) → e .start < e .finish → c .start < c .finish → clashes m c e z ≡ (overlap e c and meets z m)
+pub clashes-is : (m : ℕ) (c e : Copy) (z : ℕ) → e .start < e .finish → c .start < c .finish → clashes m c e z ≡ (overlap e c and meets z m)
 unfolding clashes overlap _and_
 clashes-is m c e z p q =
     split (eqb (e .node) (c .node))

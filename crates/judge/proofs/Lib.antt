@@ -1,0 +1,9 @@
+pub mod NoteLaws
+pub mod ScanLaws
+pub mod PartLaws
+pub mod TaskLaws
+pub mod LinkLaws
+pub mod SetMore
+pub mod GatherLaws
+pub mod OverlapLaws
+pub mod PlanLaws

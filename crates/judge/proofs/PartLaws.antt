@@ -1,0 +1,41 @@
+-- The judge is its three parts, and each part reads no more of a table than it names.
+use Prim.Native.Nat.{ℕ, _<_}
+use mathlib.Core.Bool.{Bool}
+use mathlib.Core.Path.{_≡_, sym, _∙_, ap₂}
+use native.Mathlib.Omega.{arith}
+use Rattle.reader.specs.declared.job.Job.{Job}
+use Rattle.reader.specs.declared.job.Link.{Link}
+use Rattle.reader.specs.declared.refusal.Refusal.{Refusal}
+use Rattle.reader.specs.First.{_or-else_}
+use Rattle.reader.specs.Entries.{tasks, links, link}
+use Rattle.reader.specs.Sound.{Sound}
+use Rattle.reader.proofs.FirstLaws.{first-same}
+use Rattle.rules.specs.declared.Copy.{Copy}
+use Rattle.rules.specs.Rules.{Row, ruleD, ruleE, ruleF, ruleG}
+use Rattle.rules.specs.Judge.{firstTask, firstLink, firstPair, breach}
+use Rattle.reader.proofs.FirstLaws.{or-else-join}
+use Rattle.judge.specs.Parts.{byTasks, byLinks, byFaults}
+
+pub breach-parts : (job : Job) (t : ℕ → Row) → (byTasks job t or-else byLinks job t or-else byFaults job t) ≡ breach job t
+unfolding breach byTasks byLinks byFaults
+breach-parts job t = simp or-else-join
+
+module _ (job : Job) (sound : Sound job) (f g : ℕ → Row) where
+  -- tables with the same copies
+  pub links-same : ((j : ℕ) → j < tasks job → f j .primary ≡ g j .primary) → ((j : ℕ) → j < tasks job → f j .backup ≡ g j .backup) → byLinks job f ≡ byLinks job g
+  unfolding byLinks firstLink ruleD ruleE
+  links-same primary backup =
+      ap₂ _or-else_
+      (first-same (links job) _ _ λ k p. rw (primary _ (from k p), primary _ (sound .into k p)))
+      (first-same (links job) _ _ λ k p. rw (primary _ (from k p), backup _ (from k p), backup _ (sound .into k p)))
+    where
+      from : (k : ℕ) → k < links job → link job k .from < tasks job
+      from k p = omega (arith, sound .rise k p, sound .into k p)
+
+  -- tables with the same rows
+  pub faults-same : ((j : ℕ) → j < tasks job → f j ≡ g j) → byFaults job f ≡ byFaults job g
+  unfolding byFaults firstTask firstPair
+  faults-same same =
+      ap₂ _or-else_
+      (first-same (tasks job) _ _ λ j p. rw (same j p))
+      (first-same (tasks job) _ _ λ i p. first-same (tasks job) _ _ λ j q. rw (same i p, same j q))

@@ -1,0 +1,210 @@
+-- From the passes to the judge: the table's rows are the plan's, and its answers the judge's.
+use Prim.Native.Nat.{ℕ, zero, suc, _+_, _*_, _/_, _≤_, _<_}
+use mathlib.Core.Bool.{Bool, true, false}
+use mathlib.Core.List.{List}
+use mathlib.Core.Option.{none}
+use mathlib.Core.Path.{_≡_, refl, sym, _∙_, ap, ap₂, subst, fun-ext}
+use native.Mathlib.Decide.{decLt}
+use native.Mathlib.Nat.{not-suc-le-zero}
+use native.Mathlib.Omega.{arith}
+use lib.Dec.{eqb}
+use lib.ListN.{getD}
+use borrow.Author.Tests.{eqb-true, eq-eqb}
+use Rattle.reader.specs.declared.job.Job.{Job}
+use Rattle.reader.specs.declared.plan.Plan.{Plan}
+use Rattle.reader.specs.declared.refusal.Refusal.{Refusal}
+use Rattle.reader.specs.declared.refusal.Answer.{Answer}
+use Rattle.reader.specs.declared.refusal.Answer.the-variants.{Done, Refused}
+use Rattle.reader.specs.First.{_or-else_, any}
+use Rattle.reader.specs.Limits.{maxNodes, maxTasks, maxStart, maxTime}
+use Rattle.reader.specs.Entries.{nodes, tasks, links, link, run, place}
+use Rattle.reader.specs.Refusals.{answered}
+use Rattle.reader.specs.Sound.{Sound, PlanSound}
+use Rattle.reader.proofs.TestLaws.{and-i, and-l, and-r, or-l, or-r, or-e, not-e, not-i, same-test}
+use Rattle.reader.proofs.FirstLaws.{any-i, any-e}
+use Rattle.rules.specs.declared.Copy.{Copy}
+use Rattle.rules.specs.Copies.{copy, inTime, domain}
+use Rattle.rules.specs.Rules.{Row, strong, faultSet, rows, ruleF}
+use Rattle.rules.specs.Judge.{firstTask, judge}
+use Rattle.rules.proofs.FaultSetLaws.{faults-here, faults-over, faults-e, rows-faults, row-primary, row-backup}
+use Rattle.copies.specs.declared.table.Copies.{Copies}
+use Rattle.copies.specs.Sets.{has}
+use Rattle.copies.specs.Table.{table, entry, rowOf, Held}
+use Rattle.copies.proofs.TableLaws.{same-row}
+use Rattle.judge.specs.Parts.{byTasks, byLinks, byFaults}
+use Rattle.judge.specs.declared.tasks.Placed.{Placed}
+use Rattle.judge.specs.declared.links.Walked.{Walked}
+use Rattle.judge.specs.Tasks.{Copied, TasksJudged}
+use Rattle.judge.specs.Links.{Timed, weakLink, WeakTo, LinksJudged}
+use Rattle.judge.specs.Faults.{gathered, Senders, FaultSets, Low, lossBreach}
+use Rattle.judge.specs.Overlaps.{faultBreach}
+use Rattle.judge.proofs.ScanLaws.{done-none, after, stop}
+use Rattle.judge.proofs.PartLaws.{breach-parts, links-same, faults-same}
+use Rattle.judge.proofs.OverlapLaws.{pairs-are}
+
+-- what holds at both entries of each task holds at every entry
+entries : (P : ℕ → Type 0) (n : ℕ) → ((j : ℕ) → j < n → P (2 * j)) → ((j : ℕ) → j < n → P (2 * j + 1)) → (k : ℕ) → k < 2 * n → P k
+entries P n even odd k p =
+    elim (decLt (2 * (k / 2)) k) [
+      | yes q ↦ let e : 2 * (k / 2) + 1 ≡ k = omega arith in subst P e (odd (k / 2) (omega arith))
+      | no q ↦ let e : 2 * (k / 2) ≡ k = omega arith in subst P e (even (k / 2) (omega arith))
+    ]
+
+-- a copy on a node of the job, that lasts, and with a finish that a sum can take
+record Able (job : Job) (c : Copy) : Type 0 where
+  pub on : c .node < nodes job
+  pub lasts : c .start < c .finish
+  pub ends : c .finish ≤ maxStart + maxTime
+
+module _ (job : Job) (plan : Plan) (sound : Sound job) (reads : PlanSound job plan) where
+  abbrev t : ℕ → Row
+  t = rows job plan
+
+  able : (j n s : ℕ) → j < tasks job → n < nodes job → 0 < run job j n → s ≤ maxStart → Able job (copy job j n s)
+  unfolding copy
+  able j n s p q r b = record { on = q; lasts = omega arith; ends = omega (arith, sound .run-most j n p q) }
+
+  -- a fault set has nodes of the job only
+  faults-low : (n j q : ℕ) → j < n → n ≤ tasks job → t j .faults q ≡ true → q < nodes job
+  unfolding domain copy
+  faults-low zero j q b p h = absurd (not-suc-le-zero b)
+  faults-low (suc n) j q b p h =
+      let low : j < tasks job = omega arith in
+      faults-e job t j (t j .primary) q (sym (ap (λ f. f q) (rows-faults job sound plan j low)) ∙ h)
+      (λ e. subst (λ m. m < nodes job) (sym (ap (λ (c : Copy). c .node) (row-primary job plan (tasks job) j low)) ∙ e) (reads .primary-node j low))
+      (λ k pk at weak hk. faults-low n (link job k .from) q (omega (arith, sound .rise k pk, at)) (omega arith) hk)
+
+  -- the copies in the table
+  module _ (cs : Copies) (copied : Copied job plan (tasks job) cs) where
+    entry-able : (k : ℕ) → k < 2 * tasks job → Able job (entry cs k)
+    entry-able =
+        entries (λ k. Able job (entry cs k)) (tasks job)
+        (λ j p. subst (Able job) (sym (copied .primary j p ∙ row-primary job plan (tasks job) j p)) (able j _ _ p (reads .primary-node j p) (reads .primary-able j p) (reads .primary-start j p)))
+        (λ j p. subst (Able job) (sym (copied .backup j p ∙ row-backup job plan (tasks job) j p)) (able j _ _ p (reads .backup-node j p) (reads .backup-able j p) (reads .backup-start j p)))
+
+    pub timed : Timed job cs
+    timed = record { sound = sound; ends = λ k p. entry-able k p .ends }
+
+    links-are : byLinks job (rowOf cs) ≡ byLinks job t
+    unfolding rowOf
+    links-are = links-same job sound (rowOf cs) t (copied .primary) (copied .backup)
+
+    -- weak links by the table are those by the rows
+    strong-same : (k : ℕ) → k < links job
+        → strong job (link job k) (rowOf cs (link job k .from)) (rowOf cs (link job k .to) .primary) ≡ strong job (link job k) (t (link job k .from)) (t (link job k .to) .primary)
+    unfolding strong rowOf
+    strong-same k p =
+        ap₂ (inTime job (link job k)) (copied .backup _ (omega (arith, sound .rise k p, sound .into k p))) (copied .primary _ (sound .into k p))
+
+    module _ (into : List ℕ) (weak : WeakTo job (rowOf cs) (links job) into) where
+      -- a weak link, from the bits and to them
+      weak-e : (j i : ℕ) → j < tasks job → has (getD into j 0) i ≡ true
+          → {C : Type 0} → ((k : ℕ) → k < links job → link job k .from ≡ i → link job k .to ≡ j → strong job (link job k) (t (link job k .from)) (t (link job k .to) .primary) ≡ false → C) → C
+      unfolding weakLink
+      weak-e j i p h go =
+          any-e (links job) _ (sym (weak j i (omega (arith, sound .tasks-most))) ∙ h) λ k pk e.
+          go k pk (eqb-true (link job k .from) i (and-l _ _ e)) (eqb-true (link job k .to) j (and-l _ _ (and-r _ _ e)))
+          (sym (strong-same k pk) ∙ not-e _ (and-r _ _ (and-r _ _ e)))
+
+      weak-i : (k : ℕ) → k < links job → strong job (link job k) (t (link job k .from)) (t (link job k .to) .primary) ≡ false
+          → has (getD into (link job k .to) 0) (link job k .from) ≡ true
+      unfolding weakLink
+      weak-i k p h =
+          weak _ _ (omega (arith, sound .into k p, sound .tasks-most))
+          ∙ any-i (links job) _ k p (and-i _ _ (eq-eqb (link job k .from) _ refl) (and-i _ _ (eq-eqb (link job k .to) _ refl) (not-i _ (strong-same k p ∙ h))))
+
+      pub senders : Senders (cs .node) into (tasks job)
+      senders =
+          record {
+            few = sound .tasks-most;
+            on = λ j p. omega (arith, entry-able (2 * j) (omega arith) .on, sound .nodes-most);
+            earlier = λ j i p h. weak-e j i p h (λ k pk from to w. omega (arith, sound .rise k pk));
+          }
+
+      -- the sets
+      module _ (sets : List ℕ) (filled : FaultSets (cs .node) into (tasks job) sets) where
+        abbrev final : Copies
+        final = table (cs .node) (cs .start) (cs .finish) sets
+
+        faults-are : (n j q : ℕ) → j < n → n ≤ tasks job → has (getD sets (2 * j + 1) 0) q ≡ t j .faults q
+        unfolding gathered domain
+        faults-are zero j q b p = absurd (not-suc-le-zero b)
+        faults-are (suc n) j q b p =
+            let low : j < tasks job = omega arith in
+            let own : getD (cs .node) (2 * j) 0 ≡ t j .primary .node = ap (λ (c : Copy). c .node) (copied .primary j low) in
+            filled .backup j q low
+            ∙ same-test _ _
+            (λ h. or-e _ _ h
+            (λ e. faults-here job t j (t j .primary) q (ap (λ m. eqb m q) (sym own) ∙ e))
+            (λ e. any-e maxTasks _ e λ i pi s. weak-e j i low (and-l _ _ s) λ k pk from to w.
+            faults-over job t j (t j .primary) q k pk (eq-eqb (link job k .to) j to)
+            (subst (λ m. strong job (link job k) (t (link job k .from)) (t m .primary) ≡ false) to w)
+            (subst (λ m. t m .faults q ≡ true) (sym from) (sym (faults-are n i q (omega (arith, sound .rise k pk, from, to)) (omega arith)) ∙ and-r _ _ s))))
+            (λ h. faults-e job t j (t j .primary) q h
+            (λ e. or-l _ _ (eq-eqb (getD (cs .node) (2 * j) 0) q (own ∙ e)))
+            (λ k pk to w s. or-r _ _ (any-i maxTasks _ (link job k .from) (omega (arith, sound .rise k pk, sound .into k pk, sound .tasks-most))
+            (and-i _ _
+            (subst (λ m. has (getD into m 0) (link job k .from) ≡ true) to (weak-i k pk (subst (λ m. strong job (link job k) (t (link job k .from)) (t m .primary) ≡ false) (sym to) w)))
+            (faults-are n (link job k .from) q (omega (arith, sound .rise k pk, to)) (omega arith) ∙ s)))))
+            ∙ sym (ap (λ f. f q) (rows-faults job sound plan j low))
+
+        faults-at : (j q : ℕ) → j < tasks job → has (getD sets (2 * j + 1) 0) q ≡ t j .faults q
+        faults-at j q p = faults-are (tasks job) j q p (omega arith)
+
+        rows-are : (j : ℕ) → j < tasks job → rowOf final j ≡ t j
+        unfolding rowOf
+        rows-are j p = same-row _ _ _ _ _ _ (copied .primary j p) (copied .backup j p) (fun-ext λ q. faults-at j q p)
+
+        held : Held job (tasks job) final
+        unfolding domain
+        held =
+            record {
+              node = λ k p. entry-able k p .on;
+              lasts = λ k p. entry-able k p .lasts;
+              ends = λ k p. entry-able k p .ends;
+              primary-set = filled .primary;
+              own = λ i p.
+                  faults-at i _ p ∙ ap (λ f. f (getD (cs .node) (2 * i) 0)) (rows-faults job sound plan i p)
+                  ∙ faults-here job t i (t i .primary) _ (eq-eqb _ _ (sym (ap (λ (c : Copy). c .node) (copied .primary i p))));
+              within = λ i q p h. faults-low (tasks job) i q p (omega arith) (sym (faults-at i q p) ∙ h);
+            }
+
+        pub low : Low (cs .node) (tasks job)
+        low =
+            record {
+              few = sound .tasks-most;
+              on = λ j p. omega (arith, entry-able (2 * j + 1) (omega arith) .on, sound .nodes-most);
+            }
+
+        breach-is : faultBreach final (tasks job) ≡ byFaults job (rowOf final)
+        unfolding faultBreach lossBreach byFaults firstTask ruleF rowOf domain
+        breach-is = ap (λ o. lossBreach (cs .node) sets (tasks job) or-else o) (pairs-are job final (sound .nodes-most) held)
+
+        faults-are-judged : faultBreach final (tasks job) ≡ byFaults job t
+        faults-are-judged = breach-is ∙ faults-same job sound (rowOf final) t rows-are
+
+-- the answer of each part where the parts before it found nothing
+module _ (job : Job) (plan : Plan) (sound : Sound job) (reads : PlanSound job plan) (p : Placed) (placed : TasksJudged job plan p) where
+  parts : (v : Answer) → v ≡ answered (byTasks job (rows job plan) or-else byLinks job (rows job plan) or-else byFaults job (rows job plan)) → v ≡ judge job plan
+  unfolding judge
+  parts v e = e ∙ ap answered (breach-parts job (rows job plan))
+
+  pub tasks-refused : (r : Refusal) → p .answer ≡ Refused r → p .answer ≡ judge job plan
+  tasks-refused r e = parts _ (stop _ _ _ r (placed .answer) e)
+
+  module _ (done : p .answer ≡ Done) (w : Walked) (walked : LinksJudged job (p .copies) w) where
+    no-task : byTasks job (rows job plan) ≡ none
+    no-task = done-none _ _ (placed .answer) done
+
+    links-answer : w .answer ≡ answered (byLinks job (rows job plan))
+    links-answer = walked .answer ∙ ap answered (links-are job plan sound reads (p .copies) (placed .copied))
+
+    pub links-refused : (r : Refusal) → w .answer ≡ Refused r → w .answer ≡ judge job plan
+    links-refused r e = parts _ (stop _ _ _ r links-answer e ∙ after _ _ no-task)
+
+    pub faults-answered : w .answer ≡ Done → (sets : List ℕ) → FaultSets (p .copies .node) (w .into) (tasks job) sets
+        → (v : Answer) → v ≡ answered (faultBreach (table (p .copies .node) (p .copies .start) (p .copies .finish) sets) (tasks job)) → v ≡ judge job plan
+    faults-answered d sets filled v e =
+        parts v
+        (e ∙ ap answered (faults-are-judged job plan sound reads (p .copies) (placed .copied) (w .into) (walked .weak) sets filled)
+        ∙ after _ _ (done-none _ _ links-answer d) ∙ after _ _ no-task)

@@ -1,0 +1,51 @@
+-- `judge::faults::gather` meets its contract.
+use borrow.Author.Needs.{needs}
+use native.Mathlib.Omega.{arith}
+use Rattle.judge.proofs.GatherLaws.{Gathering, gather-start, gather-more, gather-done, sender-low, sender-part}
+use Rattle.judge.proofs.faults.gather.Statement.{statement}
+use Rattle.judge.proofs.faults.gather.Tie as tie
+
+abbrev Inv-loop : tie.InvT-loop
+Inv-loop own weak sets set₀ left₀ set left = Gathering own weak sets set left
+
+abbrev μ-loop : tie.MeasureT-loop
+μ-loop own weak sets set₀ left₀ set left = left
+
+loop-holds : tie.Need-loop-holds Inv-loop μ-loop
+loop-holds c = gather-start _ _ _ _ (c .bit-of-node .ensures)
+
+cast-i : tie.Need-cast-i Inv-loop μ-loop
+cast-i c = omega (arith, sender-low (c .before .loop .left) (omega arith) (omega arith))
+
+mul-set : tie.Need-mul-set Inv-loop μ-loop
+mul-set c = omega (arith, sender-low (c .before .loop .left) (omega arith) (omega arith))
+
+add-set : tie.Need-add-set Inv-loop μ-loop
+add-set c = omega (arith, sender-low (c .before .loop .left) (omega arith) (omega arith))
+
+mul-set-2 : tie.Need-mul-set-2 Inv-loop μ-loop
+mul-set-2 c = omega (arith, sender-low (c .before .loop .left) (omega arith) (omega arith))
+
+element-copy-out-set : tie.Need-element-copy-out-set Inv-loop μ-loop
+element-copy-out-set c = omega (arith, sender-low (c .before .loop .left) (omega arith) (omega arith))
+
+bit-of-task-requires : tie.Need-bit-of-task-requires Inv-loop μ-loop
+bit-of-task-requires c κs = sender-low (c .before .before .loop .left) (omega arith) (omega arith)
+
+sub-left : tie.Need-sub-left Inv-loop μ-loop
+sub-left c = sender-part (c .before .before .before .loop .left) (omega arith) (omega arith) _ (c .bit-of-task .ensures) .0
+
+loop-less : tie.Need-loop-less Inv-loop μ-loop
+loop-less c = omega (arith, sender-part (c .before .before .before .loop .left) (omega arith) (omega arith) _ (c .bit-of-task .ensures))
+
+loop-again : tie.Need-loop-again Inv-loop μ-loop
+loop-again c = gather-more _ _ _ _ (c .before .before .before .loop .left) _ (c .before .before .before .loop .inv) (omega arith) (omega arith) (c .bit-of-task .ensures)
+
+returns : tie.Need-returns Inv-loop μ-loop
+returns c = gather-done _ _ _ _ _ (c .before .loop .inv) (c .loop-test .left)
+
+pub gather-spec : {M : Type 1} → statement M
+gather-spec =
+    tie.close
+    (tie.spec Inv-loop μ-loop (λ c κs. search needs) loop-holds cast-i mul-set add-set mul-set-2 element-copy-out-set bit-of-task-requires sub-left
+    loop-less loop-again returns)

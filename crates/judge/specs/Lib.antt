@@ -1,0 +1,6 @@
+pub mod Notes
+pub mod Parts
+pub mod Tasks
+pub mod Links
+pub mod Faults
+pub mod Overlaps
