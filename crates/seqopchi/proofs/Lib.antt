@@ -1,2 +1,4 @@
 pub mod PlannedFiles
 pub mod PlanLaws
+pub mod PassedFiles
+pub mod ReadLaws

@@ -1,18 +1,25 @@
 -- What the console's calls give, for any bytes: the first refusal in the order of document 01, and the buffer afterwards.
-use Prim.Native.Nat.{ℕ}
+use Prim.Native.Nat.{ℕ, _*_}
 use mathlib.Core.List.{List}
 use mathlib.Core.Option.{Option, none, some}
+use lib.Dec.{ltb}
+use Rattle.reader.specs.declared.job.Job.{Job}
 use Rattle.reader.specs.declared.plan.Plan.{Plan}
 use Rattle.reader.specs.declared.refusal.Refusal.{Refusal}
-use Rattle.reader.specs.First.{_or-else_}
+use Rattle.reader.specs.declared.refusal.Refusal.the-variants.{NoSuchNode}
+use Rattle.reader.specs.First.{_or-else_, unless}
 use Rattle.reader.specs.Entries.{tasks, emptyPlan}
 use Rattle.reader.specs.JobFile.{jobFault, jobAt}
 use Rattle.reader.specs.PlanFile.{planLength, planFault, planAt}
 use Rattle.writer.specs.Write.{planBytes, roomFault, Written, writes}
+use Rattle.rules.specs.declared.Loss.{Loss}
+use Rattle.rules.specs.declared.Loss.the-variants.{NoLoss, Lost}
+use Rattle.rules.specs.Copies.{domains}
 use Rattle.rules.specs.Rules.{rows}
 use Rattle.rules.specs.Judge.{breach}
 use Rattle.rules.specs.Attempts.{Attempt, refused, placed}
 use Rattle.rules.specs.Planner.{planner}
+use Rattle.replay.specs.Outcomes.{replayBytes}
 
 -- the plan of a plan file after a job file
 abbrev pub planIn : List ℕ → List ℕ → Plan
@@ -43,3 +50,19 @@ planFileFault job out =
 
 unfoldable pub planFile : List ℕ → List ℕ → Written
 planFile job out = writes (planFileFault job out) (planBytes (planOr (planner (jobAt job)))) out
+
+-- 18, 'lost node not below P'
+unfoldable pub lossFault : Job → Loss → Option Refusal
+lossFault job NoLoss = none
+lossFault job (Lost q f) = unless (ltb q (domains job)) (NoSuchNode q)
+
+-- 'Replay reads job, plan, then 18, then 17 (12 × N bytes).'
+unfoldable pub replayFault : List ℕ → List ℕ → Loss → List ℕ → Option Refusal
+replayFault job plan loss out =
+    jobFault job
+    or-else planFault plan (jobAt job)
+    or-else lossFault (jobAt job) loss
+    or-else roomFault out (12 * tasks (jobAt job))
+
+unfoldable pub replayFiles : List ℕ → List ℕ → Loss → List ℕ → Written
+replayFiles job plan loss out = writes (replayFault job plan loss out) (replayBytes (jobAt job) (planIn job plan) loss) out

@@ -1,12 +1,37 @@
 // What the rack's console, written in C, calls: thin above the proved core.
+use judge::judge_plan;
 use planner::plan_job;
 use reader::job_file::read_job;
+use reader::plan_file::read_plan;
 use reader::refusal::Answer;
 use reader::refusal::Refusal;
+use replay::replay_into;
+use rules::Loss;
 use writer::put_plan;
 ghost use mathlib.Core.Path.{_≡_};
-ghost use Rattle.reader.specs.Refusals.{result};
-ghost use Rattle.seqopchi.specs.Files.{planFile};
+ghost use Rattle.reader.specs.declared.job.Job.{Job};
+ghost use Rattle.reader.specs.Entries.{nodes as nodesOf};
+ghost use Rattle.reader.specs.Refusals.{answered, result};
+ghost use Rattle.rules.specs.declared.Loss.the-variants.{NoLoss, Lost};
+ghost use Rattle.seqopchi.specs.Files.{judgeFiles, planFile, lossFault, replayFiles};
+
+fn judge_files(job: &[u8], plan: &[u8]) -> Answer
+    ensures { λ r. ⌜ r ≡ answered (judgeFiles (now (job .entry)) (now (plan .entry))) ⌝ }
+{
+    let read = read_job(job);
+    let bad_job = read.answer;
+    let Answer::Done = bad_job else {
+        return bad_job;
+    };
+    let value = read.job;
+    let placed = read_plan(plan, value);
+    let bad_plan = placed.answer;
+    let Answer::Done = bad_plan else {
+        return bad_plan;
+    };
+    let places = placed.plan;
+    judge_plan(value, places)
+}
 
 fn plan_file(job: &[u8], out: &mut [u8]) -> Answer
     ensures { λ r. ⌜ planFile (now (job .entry)) (now (out .entry)) ≡ record { answer = r; buffer = now (out .exit) } ⌝ }
@@ -31,10 +56,80 @@ fn plan_file(job: &[u8], out: &mut [u8]) -> Answer
     Answer::Done
 }
 
+// Whether the lost node, if any, is one of so many.
+fn lost_node(loss: Loss, nodes: u32) -> Answer
+    ensures { λ r. ⌜ ((job : Job) → nodesOf job ≡ nodes → r ≡ answered (lossFault job loss)) ⌝ }
+{
+    let Loss::Lost(q, _) = loss else {
+        return Answer::Done;
+    };
+    if q < nodes {
+        return Answer::Done;
+    }
+    Answer::Refused(Refusal::NoSuchNode(q))
+}
+
+fn replay_files(job: &[u8], plan: &[u8], loss: Loss, out: &mut [u8]) -> Answer
+    ensures { λ r. ⌜ replayFiles (now (job .entry)) (now (plan .entry)) loss (now (out .entry)) ≡ record { answer = r; buffer = now (out .exit) } ⌝ }
+{
+    let read = read_job(job);
+    let bad_job = read.answer;
+    let Answer::Done = bad_job else {
+        return bad_job;
+    };
+    let value = read.job;
+    let placed = read_plan(plan, value);
+    let bad_plan = placed.answer;
+    let Answer::Done = bad_plan else {
+        return bad_plan;
+    };
+    let no_node = lost_node(loss, value.node_count);
+    let Answer::Done = no_node else {
+        return no_node;
+    };
+    let need = 12 * (value.task_count as usize);
+    if out.len() < need {
+        return Answer::Refused(Refusal::ShortBuffer(need));
+    }
+    let places = placed.plan;
+    replay_into(value, places, loss, out);
+    Answer::Done
+}
+
+// Judges a job file and a plan file.
+#[no_mangle]
+pub extern "C" fn seqopchi_judge(job: &[u8], plan: &[u8]) -> u64
+    ensures { λ r. ⌜ r ≡ result (answered (judgeFiles (now (job .entry)) (now (plan .entry)))) ⌝ }
+{
+    judge_files(job, plan).result()
+}
+
 // Plans a job file into a buffer, as a plan file.
 #[no_mangle]
 pub extern "C" fn seqopchi_plan(job: &[u8], out: &mut [u8]) -> u64
     ensures { λ r. ⌜ (r ≡ result (planFile (now (job .entry)) (now (out .entry)) .answer)) × (now (out .exit) ≡ planFile (now (job .entry)) (now (out .entry)) .buffer) ⌝ }
 {
     plan_file(job, out).result()
+}
+
+// Replays two files with no loss: three numbers for each task.
+#[no_mangle]
+pub extern "C" fn seqopchi_replay(job: &[u8], plan: &[u8], out: &mut [u8]) -> u64
+    ensures { λ r. ⌜ (r ≡ result (replayFiles (now (job .entry)) (now (plan .entry)) NoLoss (now (out .entry)) .answer)) × (now (out .exit) ≡ replayFiles (now (job .entry)) (now (plan .entry)) NoLoss (now (out .entry)) .buffer) ⌝ }
+{
+    replay_files(job, plan, Loss::NoLoss, out).result()
+}
+
+// The same, with a node lost at a moment.
+#[no_mangle]
+pub extern "C" fn seqopchi_replay_loss(
+    job: &[u8],
+    plan: &[u8],
+    node: u32,
+    moment: u32,
+    out: &mut [u8],
+) -> u64
+    ensures { λ r. ⌜ (r ≡ result (replayFiles (now (job .entry)) (now (plan .entry)) (Lost node moment) (now (out .entry)) .answer)) × (now (out .exit) ≡ replayFiles (now (job .entry)) (now (plan .entry)) (Lost node moment) (now (out .entry)) .buffer) ⌝ }
+{
+    replay_files(job, plan, Loss::Lost(node, moment), out).result()
 }
