@@ -1,7 +1,5 @@
 # make test: everything that has to hold, the proofs last.
-.PHONY: test fmt console bench
-
-WARNINGS := -Wall -Wextra -Wpedantic -Werror
+.PHONY: test fmt console compare samples bench
 
 test: fmt console
 	rt ci
@@ -10,16 +8,21 @@ fmt:
 	rt fmt --check
 
 # The C header by itself, as C99 and as C++, and the sources of the tool over it.
-console:
-	@mkdir -p build
-	echo '#include "seqopchi.h"' >build/header.c
-	$(CC) -std=c99 -Iinclude $(WARNINGS) -fsyntax-only build/header.c
-	$(CXX) -std=c++11 -Iinclude $(WARNINGS) -x c++ -fsyntax-only build/header.c
-	$(CC) -std=c99 -D_XOPEN_SOURCE=700 -Iinclude $(WARNINGS) -fsyntax-only tool/*.c
+console: build/header-checked
+	$(CC) $(TOOL_FLAGS) -fsyntax-only $(TOOL_SOURCES)
 
-# The planner's call beside plain C, on a maximum job; docs/PERFORMANCE.md keeps the last table.
-bench:
-	rt staticlib seqopchi
-	@mkdir -p build
-	$(CC) -std=c99 -D_POSIX_C_SOURCE=200809L -O3 -Iinclude $(WARNINGS) compare/planner_bench.c compare/baseline/baseline.c target/staticlib/libseqopchi.a -o build/bench
-	build/bench
+include tool.mk
+
+# The proved library beside a second implementation; the samples; times beside plain C. docs/PERFORMANCE.md keeps the last table.
+COUNT ?= 5000
+SEED ?= 1
+CARGO := cd compare && SEQOPCHI_LIB=$(CURDIR)/build cargo run --release --offline --quiet --bin
+
+compare: $(SEQOPCHI_LIB)
+	$(CARGO) compare -- --count $(COUNT) --seed $(SEED)
+
+samples: $(SEQOPCHI_LIB)
+	$(CARGO) samples
+
+bench: $(SEQOPCHI_LIB)
+	$(CARGO) bench
