@@ -1,6 +1,7 @@
 -- Laws of clashes: the hot loop, what 0 says, and that it is rule G.
 use Prim.Native.Nat.{ℕ, zero, suc, _+_, _*_, _/_, _≤_, _<_, max, min}
 use mathlib.Core.Bool.{Bool, true, false, not}
+use mathlib.Core.List.{List}
 use mathlib.Core.Path.{_≡_, refl, sym, _∙_, ap, ap₂, subst}
 use lib.Bits.{bitAnd}
 use lib.Dec.{ltb, eqb}
@@ -22,10 +23,12 @@ use Rattle.rules.specs.Copies.{overlap, domains}
 use Rattle.rules.specs.Rules.{Row, shareFault, ruleGPrimary, ruleGBackup, ruleG}
 use Rattle.copies.specs.declared.table.Copies.{Copies}
 use Rattle.copies.specs.Sets.{has, meets, everyNode}
-use Rattle.copies.specs.Table.{entry, setAt, rowOf, Held}
+use Rattle.copies.specs.Table.{nodeAt, entry, setAt, rowOf, Held}
+use Rattle.copies.specs.Chain.{lastOf, Chain}
 use Rattle.copies.specs.Clash.{clashes, free, boundOf, latest}
 use Rattle.reader.proofs.TestLaws.{and-yes, and-no}
 use Rattle.reader.proofs.FirstLaws.{every-both}
+use Rattle.copies.proofs.ChainLaws.{last-most, last-gap, chain-before, chain-down, chain-next}
 use Rattle.copies.proofs.SetLaws.{meets-i, meets-any, has-every}
 
 -- one entry, by the tests that it passes, or the one that it fails
@@ -57,18 +60,53 @@ module _ (m : ℕ) (c : Copy) (node start finish z : ℕ) where
   unfolding clashes
   miss-finish h = bound-miss λ t. clash _ (and-r _ _ (and-r _ _ (and-r _ _ t))) h
 
--- for the loop
+-- for the loop along a chain: what is left of it
 module _ (cs : Copies) (m : ℕ) (c : Copy) where
-  pub latest-start : 0 ≡ latest cs m c 0
+  -- entries on other nodes do not clash
+  latest-rest : (last k : ℕ) → last ≤ k → ((i : ℕ) → last ≤ i → i < k → entry cs i .node ≡ c .node → ⊥) → latest cs m c last ≡ latest cs m c k
   unfolding latest
-  latest-start = refl
+  latest-rest last zero p h = let e : last ≡ 0 = omega arith in ap (latest cs m c) e
+  latest-rest last (suc k) p h = elim (decLt k last) [
+    | yes q ↦ let e : last ≡ suc k = omega arith in ap (latest cs m c) e
+    | no q ↦
+        latest-rest last k (omega arith) (λ i x y. h i x (omega arith))
+        ∙ omega (arith, miss-node m c (entry cs k .node) (entry cs k .start) (entry cs k .finish) (setAt cs k) (h k (omega arith) (omega arith)))
+  ]
 
-  pub latest-more : (k at b r : ℕ) → at ≡ latest cs m c k → b ≡ boundOf m c (entry cs k) (setAt cs k) → r ≡ max at b → r ≡ latest cs m c (k + 1)
-  unfolding latest
-  latest-more k at b r h g e = rw add-one (e ∙ ap₂ max h g)
+  pub latest-last : (k : ℕ) → latest cs m c (lastOf (nodeAt (cs .node)) (c .node) k) ≡ latest cs m c k
+  latest-last k = latest-rest _ k (last-most _ (c .node) k) (last-gap (nodeAt (cs .node)) (c .node) k)
 
-  pub latest-done : (k n r : ℕ) → k ≡ n → r ≡ latest cs m c k → r ≡ latest cs m c n
-  latest-done k n r e h = subst (λ i. r ≡ latest cs m c i) e h
+  -- at is the latest of those passed, from `last` down to `left`
+  pub record Passed (before : List ℕ) (last left at : ℕ) : Type 0 where
+    pub within : left ≤ last
+    pub chain : Chain (nodeAt (cs .node)) before (c .node) left
+    pub is : max at (latest cs m c left) ≡ latest cs m c last
+
+  module _ (before : List ℕ) (last : ℕ) where
+    pub latest-start : Chain (nodeAt (cs .node)) before (c .node) last → Passed before last last 0
+    latest-start h = record { within = omega arith; chain = h; is = omega arith }
+
+    pub latest-more : (k left at b r : ℕ) → left ≡ suc k → Passed before last left at → b ≡ boundOf m c (entry cs k) (setAt cs k) → r ≡ max at b
+        → Passed before last (getD before k 0) r
+    unfolding latest
+    latest-more k left at b r e h g s =
+        let it : Passed before last (suc k) at = subst (λ x. Passed before last x at) e h in
+        record {
+          within = omega (arith, it .within, chain-down _ before (c .node) k (it .chain));
+          chain = chain-next _ before (c .node) k (it .chain);
+          is =
+              let step : latest cs m c (suc k) ≡ max (latest cs m c k) (boundOf m c (entry cs k) (setAt cs k)) = refl in
+              let rest : latest cs m c (getD before k 0) ≡ latest cs m c k = ap (latest cs m c) (chain-before _ before (c .node) k (it .chain)) ∙ latest-last k in
+              omega (arith, it .is, step, rest, g, s);
+        }
+
+    pub latest-less : (k left at : ℕ) → left ≡ suc k → Passed before last left at → getD before k 0 < left
+    latest-less k left at e h =
+        omega (arith, chain-down _ before (c .node) k (subst (Chain (nodeAt (cs .node)) before (c .node)) e (h .chain)))
+
+    pub latest-done : (left at : ℕ) → left ≡ 0 → Passed before last left at → at ≡ latest cs m c last
+    unfolding latest
+    latest-done left at e h = let it : Passed before last 0 at = subst (λ x. Passed before last x at) e h in omega (arith, it .is)
 
 -- an entry that clashes ends after the copy's start
 pub clash-ends : (m : ℕ) (c e : Copy) (z : ℕ) → clashes m c e z ≡ true → c .start < e .finish
@@ -111,6 +149,10 @@ module _ (cs : Copies) (m : ℕ) (c : Copy) where
       none-left : every n (λ k. not (clashesAt k)) ≡ true → (r : ℕ) → latest cs m c n ≡ r → r ≡ 0
       none-left h zero e = refl
       none-left h (suc r) e = latest-some n (omega arith) (λ k p f s. clash (clashesAt k) f (not-e _ (every-e n _ h k p)))
+
+  -- and of the chain of its node
+  pub free-last : (k : ℕ) → free cs m c (lastOf (nodeAt (cs .node)) (c .node) k) ≡ free cs m c k
+  free-last k = sym (latest-free _) ∙ ap (λ x. eqb x 0) (latest-last cs m c k) ∙ latest-free k
 
 -- two copies that last overlap exactly if each starts before the other's finish
 ticks : (a f s d : ℕ) → a < f → s < d → (ltb a d and ltb s f) ≡ ltb (max a s) (min f d)

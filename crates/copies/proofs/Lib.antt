@@ -2,4 +2,5 @@ pub mod ListMore
 pub mod SetLaws
 pub mod ArrivalLaws
 pub mod TableLaws
+pub mod ChainLaws
 pub mod ClashLaws

@@ -2,13 +2,14 @@
 use Prim.Native.Nat.{ℕ, _+_, _*_, _<_}
 use mathlib.Core.Bool.{Bool, false}
 use mathlib.Core.Path.{_≡_, refl, sym, _∙_, ap, fun-ext}
-use lib.ListN.{getD, set, length}
+use lib.ListN.{getD, set, length-set}
 use lib.Seq.{getD-set-same, getD-set-other}
+use native.Mathlib.Omega.{arith}
 use Rattle.rules.specs.declared.Copy.{Copy}
 use Rattle.rules.specs.Rules.{Row, blankRow}
 use Rattle.copies.specs.declared.table.Copies.{Copies}
 use Rattle.copies.specs.Sets.{has}
-use Rattle.copies.specs.Table.{copyCount, entry, setAt, rowOf, table, emptyCopies, Stored}
+use Rattle.copies.specs.Table.{copyCount, entry, setAt, rowOf, table, emptyCopies, Whole, Stored}
 use Rattle.copies.proofs.ListMore.{replicated}
 use Rattle.copies.proofs.SetLaws.{has-none}
 
@@ -21,23 +22,35 @@ pub same-row : (a b c d : Copy) (f g : ℕ → Bool) → a ≡ b → c ≡ d →
 same-row a b c d f g p q r = rw (p, q, r)
 
 -- the four stores
-pub stored : (cs : Copies) (k : ℕ) (c : Copy) (z : ℕ) → k < length (cs .node) → k < length (cs .start) → k < length (cs .finish) → k < length (cs .set)
-    → Stored cs k c z (table (set (cs .node) k (c .node)) (set (cs .start) k (c .start)) (set (cs .finish) k (c .finish)) (set (cs .set) k z))
-stored cs k c z p q r s =
-    record {
-      here =
-          same-copy _ _ _ (c .node) (c .start) (c .finish)
-          (getD-set-same (cs .node) k (c .node) 0 p)
-          (getD-set-same (cs .start) k (c .start) 0 q)
-          (getD-set-same (cs .finish) k (c .finish) 0 r);
-      here-set = getD-set-same (cs .set) k z 0 s;
-      other = λ i h.
-          same-copy _ _ _ _ _ _
-          (getD-set-other (cs .node) k i (c .node) 0 h)
-          (getD-set-other (cs .start) k i (c .start) 0 h)
-          (getD-set-other (cs .finish) k i (c .finish) 0 h);
-      other-set = λ i h. getD-set-other (cs .set) k i z 0 h;
-    }
+module _ (cs : Copies) (whole : Whole cs) (k : ℕ) (c : Copy) (z : ℕ) (p : k < copyCount) where
+  abbrev put : Copies
+  put = table (set (cs .node) k (c .node)) (set (cs .start) k (c .start)) (set (cs .finish) k (c .finish)) (set (cs .set) k z)
+
+  pub stored-whole : Whole put
+  stored-whole =
+      record {
+        node = length-set (cs .node) k (c .node) ∙ whole .node;
+        start = length-set (cs .start) k (c .start) ∙ whole .start;
+        finish = length-set (cs .finish) k (c .finish) ∙ whole .finish;
+        set = length-set (cs .set) k z ∙ whole .set;
+      }
+
+  pub stored : Stored cs k c z put
+  stored =
+      record {
+        here =
+            same-copy _ _ _ (c .node) (c .start) (c .finish)
+            (getD-set-same (cs .node) k (c .node) 0 (omega (arith, whole .node)))
+            (getD-set-same (cs .start) k (c .start) 0 (omega (arith, whole .start)))
+            (getD-set-same (cs .finish) k (c .finish) 0 (omega (arith, whole .finish)));
+        here-set = getD-set-same (cs .set) k z 0 (omega (arith, whole .set));
+        other = λ i h.
+            same-copy _ _ _ _ _ _
+            (getD-set-other (cs .node) k i (c .node) 0 h)
+            (getD-set-other (cs .start) k i (c .start) 0 h)
+            (getD-set-other (cs .finish) k i (c .finish) 0 h);
+        other-set = λ i h. getD-set-other (cs .set) k i z 0 h;
+      }
 
 pub empty-rows : rowOf emptyCopies ≡ (λ i. blankRow)
 unfolding rowOf blankRow

@@ -1,4 +1,5 @@
 pub mod Sets
 pub mod Arrival
 pub mod Table
+pub mod Chain
 pub mod Clash

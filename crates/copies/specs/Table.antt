@@ -3,7 +3,7 @@ use Prim.Native.Nat.{ℕ, _+_, _*_, _≤_, _<_}
 use mathlib.Core.Bool.{true}
 use mathlib.Core.List.{List}
 use mathlib.Core.Path.{_≡_}
-use lib.ListN.{getD, replicate}
+use lib.ListN.{getD, length, replicate}
 use Rattle.reader.specs.declared.job.Job.{Job}
 use Rattle.reader.specs.Limits.{maxTasks, maxStart, maxTime}
 use Rattle.reader.specs.Entries.{nodes}
@@ -19,6 +19,10 @@ copyCount = 2 * maxTasks
 abbrev pub table : List ℕ → List ℕ → List ℕ → List ℕ → Copies
 table node start finish sets = record { node = node; start = start; finish = finish; set = sets }
 
+-- the node of entry k
+abbrev pub nodeAt : List ℕ → ℕ → ℕ
+nodeAt node k = getD node k 0
+
 -- entry k, and its set
 abbrev pub entry : Copies → ℕ → Copy
 entry cs k = record { node = getD (cs .node) k 0; start = getD (cs .start) k 0; finish = getD (cs .finish) k 0 }
@@ -32,6 +36,13 @@ rowOf cs j = record { primary = entry cs (2 * j); backup = entry cs (2 * j + 1);
 
 abbrev pub emptyCopies : Copies
 emptyCopies = let zeros : List ℕ = replicate copyCount 0 in table zeros zeros zeros zeros
+
+-- the lists are as long as the table
+pub record Whole (cs : Copies) : Type 0 where
+  pub node : length (cs .node) ≡ copyCount
+  pub start : length (cs .start) ≡ copyCount
+  pub finish : length (cs .finish) ≡ copyCount
+  pub set : length (cs .set) ≡ copyCount
 
 -- r is the table with c, of set z, as entry k
 pub record Stored (cs : Copies) (k : ℕ) (c : Copy) (z : ℕ) (r : Copies) : Type 0 where

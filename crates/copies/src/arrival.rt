@@ -23,3 +23,11 @@ pub fn arrives(delay: u32, from: u32, finish: u32, to: u32, start: u32) -> bool
 {
     finish + delay_between(delay, from, to) <= start
 }
+
+// From when a copy on a node has one input more.
+pub fn ready_by(ready: u32, at: u32, delay: u32, from: u32, to: u32) -> u32
+    requires { ⌜ Fits at delay ⌝ }
+    ensures { λ r. ⌜ r ≡ max ready (at + delayOf delay from to) ⌝ }
+{
+    later(ready, at + delay_between(delay, from, to))
+}

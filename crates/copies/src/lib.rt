@@ -1,5 +1,6 @@
 // What judge, planner and replay share: the flat table of copies, sets as bits, arrival and clash tests.
 pub mod arrival;
+pub mod chain;
 pub mod clash;
 pub mod sets;
 pub mod table;

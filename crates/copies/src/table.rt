@@ -3,7 +3,7 @@ use reader::job::Job;
 use rules::Copy;
 ghost use mathlib.Core.Path.{_≡_};
 ghost use Prim.Native.Nat.{_<_};
-ghost use Rattle.copies.specs.Table.{copyCount, emptyCopies, Stored};
+ghost use Rattle.copies.specs.Table.{copyCount, table, emptyCopies, Whole, Stored};
 
 // A backup's set is its task's fault set, a primary's is every node, so that one clash test serves both.
 pub struct Copies {
@@ -27,17 +27,23 @@ impl Copies {
             set: [0u32; Copies::COUNT],
         }
     }
+}
 
-    // The table with entry k.
-    pub fn with(self, k: usize, copy: Copy, set: u32) -> Copies
-        requires { ⌜ k < copyCount ⌝ }
-        ensures { λ r. ⌜ Stored self k copy set r ⌝ }
-    {
-        let mut r = self;
-        r.node[k] = copy.node;
-        r.start[k] = copy.start;
-        r.finish[k] = copy.finish;
-        r.set[k] = set;
-        r
-    }
+// Stores entry k.
+pub fn put(
+    node: &mut [u32; Copies::COUNT],
+    start: &mut [u32; Copies::COUNT],
+    finish: &mut [u32; Copies::COUNT],
+    sets: &mut [u32; Copies::COUNT],
+    k: usize,
+    copy: Copy,
+    set: u32,
+)
+    requires { ⌜ Whole (table (now node) (now start) (now finish) (now sets)) × (k < copyCount) ⌝ }
+    ensures { λ _. ⌜ Whole (table (now (node .exit)) (now (start .exit)) (now (finish .exit)) (now (sets .exit))) × Stored (table (now (node .entry)) (now (start .entry)) (now (finish .entry)) (now (sets .entry))) k copy set (table (now (node .exit)) (now (start .exit)) (now (finish .exit)) (now (sets .exit))) ⌝ }
+{
+    node[k] = copy.node;
+    start[k] = copy.start;
+    finish[k] = copy.finish;
+    sets[k] = set;
 }

@@ -1,33 +1,38 @@
--- Laws of rule G over entries: the hot loop, the pairs of a task, and that they are the rule.
+-- Laws of rule G over entries: the loop along chains, the pairs of a task, and that they are the rule.
 use Prim.Native.Nat.{ℕ, _+_, _*_, _≤_, _<_}
 use mathlib.Core.Bool.{Bool, true, false, not}
+use mathlib.Core.List.{List}
 use mathlib.Core.Option.{none}
-use mathlib.Core.Path.{_≡_, sym, _∙_, ap, ap₂, subst}
-use native.Mathlib.Decide.{decLt}
+use mathlib.Core.Path.{_≡_, refl, sym, _∙_, ap, ap₂, subst}
 use native.Mathlib.Omega.{arith}
 use lib.Bits.{bitOr}
-use lib.Dec.{eqb, leb, ltb}
-use borrow.Author.Tests.{leb-true, le-leb, lt-leb, ltb-true, lt-ltb, le-ltb, eq-eqb, ne-eqb}
+use lib.Dec.{eqb, ltb}
+use lib.ListN.{getD, replicate}
+use borrow.Author.Tests.{ltb-true, lt-ltb, le-ltb, eq-eqb, ne-eqb}
 use Rattle.reader.specs.declared.job.Job.{Job}
 use Rattle.reader.specs.declared.refusal.Refusal.the-variants.{Overlap}
 use Rattle.reader.specs.Limits.{maxNodes}
 use Rattle.reader.specs.Entries.{nodes, tasks}
 use Rattle.reader.specs.Tests.{_and_, _implies_}
 use Rattle.reader.specs.First.{first, unless, every}
-use Rattle.reader.proofs.TestLaws.{split, and-i, and-l, and-r, imp-e, imp-i, same-test}
-use Rattle.reader.proofs.FirstLaws.{first-none, first-same, none-unless, every-i, every-e, every-more}
+use Rattle.reader.proofs.TestLaws.{split, and-i, and-l, and-r, imp-i, imp-fails}
+use Rattle.reader.proofs.FirstLaws.{first-none, first-same, none-unless, every-e, every-more, every-start}
 use Rattle.rules.specs.declared.Copy.{Copy}
 use Rattle.rules.specs.Copies.{overlap}
 use Rattle.rules.specs.Rules.{shareFault, ruleG, ruleGPrimary, ruleGBackup}
 use Rattle.rules.specs.Judge.{firstPair}
 use Rattle.copies.specs.declared.table.Copies.{Copies}
 use Rattle.copies.specs.Sets.{has, meets, everyNode}
-use Rattle.copies.specs.Table.{entry, setAt, rowOf, Held}
-use Rattle.copies.specs.Clash.{clashes, boundOf}
+use Rattle.copies.specs.Table.{copyCount, nodeAt, entry, setAt, rowOf, Held}
+use Rattle.copies.specs.Chain.{Chain, Chained}
+use Rattle.copies.specs.Clash.{clashes, free, boundOf, latest}
 use Rattle.reader.proofs.TestLaws.{and-yes, and-join}
 use Rattle.copies.proofs.SetLaws.{has-every, meets-i, meets-any}
-use Rattle.copies.proofs.ClashLaws.{clash-ends, clashes-is}
-use Rattle.judge.specs.Overlaps.{apart, untouched, pairBreach}
+use Rattle.copies.proofs.ListMore.{replicated}
+use Rattle.copies.proofs.ChainLaws.{chain-of, chain-within, chained-start, chained-pair}
+use Rattle.copies.proofs.ClashLaws.{latest-last, latest-free, clash-ends, clashes-is}
+use Rattle.judge.specs.Faults.{Low}
+use Rattle.judge.specs.Overlaps.{apart, pairApart, pairBreach, clear}
 use Rattle.judge.proofs.SetMore.{union-empty}
 
 -- no bound: no clash
@@ -38,71 +43,99 @@ no-bound m c e z x h =
     (λ t. rw t (ne-eqb x 0 (λ n. omega (arith, clash-ends m c e z t, rw t at h))))
     (λ t. rw t (ap (λ n. eqb n 0) (rw t at h)))
 
--- the hot loop
-module _ (cs : Copies) (i from : ℕ) where
-  pub hits-start : true ≡ untouched cs i from from
-  unfolding untouched _implies_
-  hits-start = sym (every-i from _ (λ k p. rw (lt-leb from k p)))
+-- the loop along chains, after j of n tasks
+pub record Seen (cs : Copies) (n j found : ℕ) (before last : List ℕ) : Type 0 where
+  pub within : j ≤ n
+  pub is : eqb found 0 ≡ every j (clear cs)
+  pub chained : Chained (nodeAt (cs .node)) maxNodes copyCount (2 * j) last before
 
-  -- entry k more, against the copies p and b of task i
-  pub hits-more : (k found : ℕ) → from ≤ k → eqb found 0 ≡ untouched cs i from k
-      → (p b e : Copy) → p ≡ entry cs (2 * i) → b ≡ entry cs (2 * i + 1) → e ≡ entry cs k
-      → (x y : ℕ) → x ≡ boundOf (setAt cs k) e p (setAt cs (2 * i)) → y ≡ boundOf (setAt cs k) e b (setAt cs (2 * i + 1))
-      → eqb (bitOr (bitOr found x) y) 0 ≡ untouched cs i from (k + 1)
-  unfolding untouched apart _implies_
-  hits-more k found least h p b e ep eb ee x y ex ey =
-      rw (every-more k (λ k. leb from k implies apart cs i k), le-leb from k least)
-      (union-empty (bitOr found x) y ∙ ap (λ b. b and eqb y 0) (union-empty found x) ∙ and-join (eqb found 0) (eqb x 0) (eqb y 0)
-      ∙ ap₂ _and_ h (ap₂ _and_
-      (no-bound _ _ _ _ x (ex ∙ ap₂ (λ c d. boundOf (setAt cs k) c d (setAt cs (2 * i))) ee ep))
-      (no-bound _ _ _ _ y (ey ∙ ap₂ (λ c d. boundOf (setAt cs k) c d (setAt cs (2 * i + 1))) ee eb))))
+module _ (cs : Copies) (n : ℕ) (low : Low (cs .node) n) where
+  pub seen-start : Seen cs n 0 0 (replicate copyCount 0) (replicate maxNodes 0)
+  seen-start =
+      record { within = omega arith; is = sym (every-start (clear cs)); chained = chained-start _ _ _ _ _ refl refl (replicated 0 maxNodes) }
 
-  pub hits-done : (k to found : ℕ) → k ≡ to → eqb found 0 ≡ untouched cs i from k → eqb found 0 ≡ untouched cs i from to
-  hits-done k to found e h = subst (λ n. eqb found 0 ≡ untouched cs i from n) e h
+  module _ (j found : ℕ) (before last : List ℕ) (so-far : Seen cs n j found before last) (below : j < n) where
+    -- copy c, which is entry k of task j
+    module _ (k : ℕ) (p : k < 2 * n) (c : Copy) (e : c ≡ entry cs k) where
+      pub seen-node : c .node < maxNodes
+      seen-node = omega (arith, ap (λ d. d .node) e, low .on k p)
 
-  untouched-e : (to k : ℕ) → untouched cs i from to ≡ true → from ≤ k → k < to → apart cs i k ≡ true
-  unfolding untouched
-  untouched-e to k h p q = imp-e (leb from k) (apart cs i k) (every-e to _ h k q) (le-leb from k p)
+      pub seen-chain : (getD last (c .node) 0 ≤ copyCount) × Chain (nodeAt (cs .node)) before (c .node) (getD last (c .node) 0)
+      seen-chain = (
+        omega (arith, chain-within _ _ _ _ last before (so-far .chained) (c .node) seen-node, low .few),
+        chain-of _ _ _ _ last before (so-far .chained) (c .node) seen-node,
+      )
+
+      end-clear : (u : ℕ) → u ≡ latest cs (setAt cs k) c (getD last (c .node) 0) → eqb u 0 ≡ free cs (setAt cs k) (entry cs k) (2 * j)
+      end-clear u h =
+          ap (λ x. eqb x 0) (h ∙ ap (latest cs (setAt cs k) c) (so-far .chained .lasts (c .node) seen-node) ∙ latest-last cs (setAt cs k) c (2 * j))
+          ∙ latest-free cs (setAt cs k) c (2 * j) ∙ ap (λ d. free cs (setAt cs k) d (2 * j)) e
+
+    pub seen-more : (p b : Copy) (ep : p ≡ entry cs (2 * j)) (eb : b ≡ entry cs (2 * j + 1)) (u v : ℕ)
+        → u ≡ latest cs (setAt cs (2 * j)) p (getD last (p .node) 0) → v ≡ latest cs (setAt cs (2 * j + 1)) b (getD last (b .node) 0)
+        → (l m h a : List ℕ)
+        → ((key : ℕ → ℕ) → key (2 * j) ≡ p .node → Chained key maxNodes copyCount (2 * j) last before → Chained key maxNodes copyCount (2 * j + 1) l h)
+        → ((key : ℕ → ℕ) → key (2 * j + 1) ≡ b .node → Chained key maxNodes copyCount (2 * j + 1) l h → Chained key maxNodes copyCount (2 * j + 1 + 1) m a)
+        → Seen cs n (j + 1) (bitOr (bitOr found u) v) a m
+    unfolding clear
+    seen-more p b ep eb u v eu ev l m h a first second =
+        record {
+          within = omega arith;
+          is =
+              union-empty (bitOr found u) v ∙ ap (λ x. x and eqb v 0) (union-empty found u) ∙ and-join (eqb found 0) (eqb u 0) (eqb v 0)
+              ∙ ap₂ _and_ (so-far .is) (ap₂ _and_ (end-clear (2 * j) (omega arith) p ep u eu) (end-clear (2 * j + 1) (omega arith) b eb v ev))
+              ∙ sym (every-more j (clear cs));
+          chained = chained-pair _ _ _ j last before l h m a (so-far .chained) (first _ (ap (λ c. c .node) (sym ep))) (second _ (ap (λ c. c .node) (sym eb)));
+        }
+
+  pub seen-done : (j found : ℕ) (before last : List ℕ) → Seen cs n j found before last → n ≤ j → eqb found 0 ≡ every n (clear cs)
+  seen-done j found before last s p = let e : j ≡ n = omega (arith, s .within) in subst (λ k. eqb found 0 ≡ every k (clear cs)) e (s .is)
+
+-- a pair of tasks, by the four bounds
+pub pair-bounds : (cs : Copies) (i j : ℕ) (p b q c : Copy) → p ≡ entry cs (2 * i) → b ≡ entry cs (2 * i + 1) → q ≡ entry cs (2 * j) → c ≡ entry cs (2 * j + 1)
+    → (x y z w : ℕ)
+    → x ≡ boundOf (setAt cs (2 * j)) q p (setAt cs (2 * i)) → y ≡ boundOf (setAt cs (2 * j)) q b (setAt cs (2 * i + 1))
+    → z ≡ boundOf (setAt cs (2 * j + 1)) c p (setAt cs (2 * i)) → w ≡ boundOf (setAt cs (2 * j + 1)) c b (setAt cs (2 * i + 1))
+    → eqb (bitOr (bitOr x y) (bitOr z w)) 0 ≡ pairApart cs i j
+unfolding pairApart apart
+pair-bounds cs i j p b q c ep eb eq ec x y z w ex ey ez ew =
+    union-empty (bitOr x y) (bitOr z w) ∙ ap₂ _and_ (union-empty x y) (union-empty z w)
+    ∙ ap₂ _and_
+    (ap₂ _and_
+    (no-bound _ _ _ _ x (ex ∙ ap₂ (λ c d. boundOf (setAt cs (2 * j)) c d (setAt cs (2 * i))) eq ep))
+    (no-bound _ _ _ _ y (ey ∙ ap₂ (λ c d. boundOf (setAt cs (2 * j)) c d (setAt cs (2 * i + 1))) eq eb)))
+    (ap₂ _and_
+    (no-bound _ _ _ _ z (ez ∙ ap₂ (λ c d. boundOf (setAt cs (2 * j + 1)) c d (setAt cs (2 * i))) ec ep))
+    (no-bound _ _ _ _ w (ew ∙ ap₂ (λ c d. boundOf (setAt cs (2 * j + 1)) c d (setAt cs (2 * i + 1))) ec eb)))
 
 -- task i and those above it
 module _ (cs : Copies) (i : ℕ) where
-  -- neither entry of task j clashes
   abbrev pub pairKept : ℕ → Bool
-  pairKept j = ltb i j implies (apart cs i (2 * j) and apart cs i (2 * j + 1))
+  pairKept j = ltb i j implies pairApart cs i j
 
-  pair-kept : (j : ℕ) → i < j → untouched cs i (2 * j) (2 * j + 2) ≡ pairKept j
-  unfolding untouched _implies_
-  pair-kept j p =
-      rw (lt-ltb i j p)
-      (same-test _ _
-      (λ h. and-i _ _ (untouched-e cs i (2 * j) (2 * j + 2) (2 * j) h (omega arith) (omega arith)) (untouched-e cs i (2 * j) (2 * j + 2) (2 * j + 1) h (omega arith) (omega arith)))
-      (λ h. every-i (2 * j + 2) _ λ k q. imp-i (leb (2 * j) k) (apart cs i k) λ e.
-      let least = leb-true (2 * j) k e in
-      elim (decLt (2 * j) k) [
-        | yes r ↦ let m : 2 * j + 1 ≡ k = omega arith in subst (λ k. apart cs i k ≡ true) m (and-r _ _ h)
-        | no r ↦ let m : 2 * j ≡ k = omega arith in subst (λ k. apart cs i k ≡ true) m (and-l _ _ h)
-      ]))
+  -- by what the test of a pair answers
+  pub pair-clear : (j r : ℕ) → eqb r 0 ≡ pairApart cs i j → r ≡ 0 → pairKept j ≡ true
+  pair-clear j r e h = imp-i _ _ (λ _. sym e ∙ eq-eqb r 0 h)
 
-  -- by what the hot loop answers of its two entries
-  pub pair-clear : (j r : ℕ) → i < j → eqb r 0 ≡ untouched cs i (2 * j) (2 * j + 2) → r ≡ 0 → pairKept j ≡ true
-  pair-clear j r p e h = sym (pair-kept j p) ∙ sym e ∙ eq-eqb r 0 h
-
-  pub pair-broken : (j r : ℕ) → i < j → eqb r 0 ≡ untouched cs i (2 * j) (2 * j + 2) → (r ≡ 0 → ⊥) → pairKept j ≡ false
-  pair-broken j r p e h = sym (pair-kept j p) ∙ sym e ∙ ne-eqb r 0 h
+  pub pair-broken : (j r : ℕ) → i < j → eqb r 0 ≡ pairApart cs i j → (r ≡ 0 → ⊥) → pairKept j ≡ false
+  pair-broken j r p e h = imp-fails _ _ (lt-ltb i j p) (sym e ∙ ne-eqb r 0 h)
 
   -- pairs begin above i
   pub pairs-skip : first (i + 1) (λ j. unless (pairKept j) (Overlap i j)) ≡ none
   unfolding _implies_
   pairs-skip = first-none (i + 1) _ (λ j p. none-unless (pairKept j) (Overlap i j) (rw (le-ltb i j (omega arith))))
 
-  -- and of all entries above
-  pub pairs-none : (n r : ℕ) → eqb r 0 ≡ untouched cs i (2 * i + 2) (2 * n) → r ≡ 0 → pairBreach cs n i ≡ none
-  unfolding pairBreach
-  pairs-none n r is zero =
-      let h = sym is ∙ eq-eqb r 0 zero in
-      first-none n _ λ j p. none-unless (pairKept j) (Overlap i j) (imp-i _ _ λ e.
-      let above = ltb-true i j e in
-      and-i _ _ (untouched-e cs i (2 * i + 2) (2 * n) (2 * j) h (omega arith) (omega arith)) (untouched-e cs i (2 * i + 2) (2 * n) (2 * j + 1) h (omega arith) (omega arith)))
+-- where every copy is clear of the earlier tasks no pair breaks G
+pub none-found : (cs : Copies) (n r : ℕ) → eqb r 0 ≡ every n (clear cs) → r ≡ 0 → first n (pairBreach cs n) ≡ none
+unfolding pairBreach clear free pairApart apart
+none-found cs n r e h =
+    first-none n _ λ i p. first-none n _ λ j q. none-unless (pairKept cs i j) (Overlap i j) (imp-i _ _ λ above.
+    let rises = ltb-true i j above in
+    let both = every-e n (clear cs) (sym e ∙ eq-eqb r 0 h) j q in
+    and-i _ _ (apart-from j (2 * j) (and-l _ _ both) i rises) (apart-from j (2 * j + 1) (and-r _ _ both) i rises))
+  where
+    apart-from : (j k : ℕ) → free cs (setAt cs k) (entry cs k) (2 * j) ≡ true → (i : ℕ) → i < j → apart cs i k ≡ true
+    apart-from j k f i p = and-i _ _ (every-e (2 * j) _ f (2 * i) (omega arith)) (every-e (2 * j) _ f (2 * i + 1) (omega arith))
 
 -- the pairs are those of the rule
 module _ (job : Job) (cs : Copies) (few : nodes job ≤ maxNodes) (held : Held job (tasks job) cs) where
@@ -121,8 +154,8 @@ module _ (job : Job) (cs : Copies) (few : nodes job ≤ maxNodes) (held : Held j
   share-is i j p = meets-any (nodes job) _ _ (λ q. held .within i q p)
 
   module _ (i j : ℕ) (rises : i < j) (low : j < tasks job) where
-    pub pair-is : (apart cs i (2 * j) and apart cs i (2 * j + 1)) ≡ ruleG job (rowOf cs i) (rowOf cs j)
-    unfolding apart rowOf ruleG ruleGPrimary ruleGBackup
+    pub pair-is : pairApart cs i j ≡ ruleG job (rowOf cs i) (rowOf cs j)
+    unfolding pairApart apart rowOf ruleG ruleGPrimary ruleGBackup
     pair-is =
         let pi : i < tasks job = omega arith in
         ap₂ _and_

@@ -173,7 +173,7 @@ module _ (job : Job) (plan : Plan) (sound : Sound job) (reads : PlanSound job pl
         low =
             record {
               few = sound .tasks-most;
-              on = λ j p. omega (arith, entry-able (2 * j + 1) (omega arith) .on, sound .nodes-most);
+              on = λ k p. omega (arith, entry-able k p .on, sound .nodes-most);
             }
 
         breach-is : faultBreach final (tasks job) ≡ byFaults job (rowOf final)

@@ -28,10 +28,10 @@ pub record FaultSets (node into : List ℕ) (n : ℕ) (r : List ℕ) : Type 0 wh
   pub primary : (j : ℕ) → j < n → getD r (2 * j) 0 ≡ everyNode
   pub backup : (j q : ℕ) → j < n → has (getD r (2 * j + 1) 0) q ≡ gathered (getD node (2 * j) 0) (getD into j 0) r q
 
--- what F rests on
+-- what F and G rest on
 pub record Low (node : List ℕ) (n : ℕ) : Type 0 where
   pub few : n ≤ maxTasks
-  pub on : (j : ℕ) → j < n → getD node (2 * j + 1) 0 < maxNodes
+  pub on : (k : ℕ) → k < 2 * n → getD node k 0 < maxNodes
 
 -- F over the first n tasks
 unfoldable pub lossBreach : List ℕ → List ℕ → ℕ → Option Refusal

@@ -1,24 +1,28 @@
 -- The best over all nodes: each node's place beats those before it, or there is none.
 use Prim.Native.Nat.{ℕ, suc, _+_, _≤_, _<_, max}
-use mathlib.Core.Bool.{Bool}
+use mathlib.Core.Bool.{Bool, true, false, not}
 use mathlib.Core.List.{List}
 use mathlib.Core.Option.{Option, none, some}
 use mathlib.Core.Path.{_≡_, refl, sym, _∙_, ap, ap₂, subst}
+use lib.Dec.{leb, ltb}
 use lib.ListN.{getD}
-use borrow.Author.Tests.{leb-true}
+use borrow.Author.Tests.{leb-true, le-leb, lt-leb, leb-false, ltb-true, ltb-false, lt-ltb, le-ltb}
 use native.Mathlib.Numerals.{add-one}
 use native.Mathlib.Omega.{arith}
-use Rattle.reader.specs.declared.job.Task.{Task}
-use Rattle.reader.specs.First.{_or-else_, first}
-use Rattle.reader.proofs.TestLaws.{and-l, and-r}
-use Rattle.reader.proofs.FirstLaws.{first-some, some-first, first-none, none-first, first-same, when-some, when-is}
+use Rattle.reader.specs.Tests.{_and_}
+use Rattle.reader.specs.First.{_or-else_, first, when}
+use Rattle.reader.specs.Limits.{maxNodes}
+use Rattle.reader.proofs.TestLaws.{split, and-l, and-r, not-e, not-x}
+use Rattle.reader.proofs.FirstLaws.{first-some, some-first, first-none, none-first, first-same, when-some, when-is, some-when, none-when}
 use Rattle.rules.specs.declared.Copy.{Copy}
 use Rattle.copies.specs.declared.table.Copies.{Copies}
+use Rattle.copies.specs.Sets.{has}
+use Rattle.planner.specs.declared.inputs.Ready.{Ready}
+use Rattle.planner.specs.declared.search.Ask.{Ask}
 use Rattle.planner.specs.declared.search.Search.{Search}
-use Rattle.planner.specs.declared.slot.Slot.{Slot}
-use Rattle.planner.specs.declared.slot.Slot.the-variants.{At, Nothing}
-use Rattle.planner.specs.Search.{slotCopy, spot, tryAt, onNode, bestOf, finishBelow, nodeOk, fits, Searched, AskedNode}
-use Rattle.planner.proofs.LeapLaws.{on-node-same}
+use Rattle.planner.specs.Inputs.{readyOn}
+use Rattle.planner.specs.Search.{spot, tryAt, startedAt, onNode, bestOf, finishBelow, noPlace, placeBy, soonerOf, freeFrom, nodeOk, fits, Searched, Asked}
+use Rattle.planner.proofs.LeapLaws.{on-node-same, on-node-unable, barred-nothing, unbarred}
 
 -- what is found at t finishes at t
 abbrev Timed : (ℕ → Option Copy) → Type 0
@@ -85,38 +89,126 @@ module _ (runs : List ℕ) (d : ℕ) (ok : Copy → Bool) where
   pub best-done : (k n : ℕ) (r : Option Copy) → k ≡ n → r ≡ bestOf runs (suc d) ok k → r ≡ bestOf runs (suc d) ok n
   best-done k n r e h = rw e at h
 
-  -- a better one must finish by the deadline, too
-  pub below-most : (k : ℕ) (a : Option Copy) (below : ℕ) → a ≡ bestOf runs (suc d) ok k → below ≡ finishBelow a d → below ≤ d + 1
-  unfolding bestOf
-  below-most k none below ea e = omega arith
-  below-most k (some c) below ea e =
-      let h = first-some (suc d) _ c (sym ea) in
-      omega (arith, h .below, many k (h .at) c (h .is))
+-- the best so far as a copy, which counts where it finishes by the deadline
+module _ (d : ℕ) where
+  pub nowhere-none : placeBy (noPlace d) d ≡ none
+  unfolding placeBy
+  nowhere-none = none-when _ _ (lt-leb (d + 1) d (omega arith))
 
--- what a search asks of node n, and what it rests on
-module _ (cs : Copies) (search : Search) (n from : ℕ) (start : from ≡ max (getD (search .ready) n 0) (search .least)) where
-  pub fits-node : (run below : ℕ) (o : Option Copy) → o ≡ onNode n run below (nodeOk cs (search .set) (search .count) from (search .barred)) → o ≡ onNode n run below (fits cs search)
-  unfolding fits
-  fits-node run below o e =
-      e ∙ on-node-same n run below _ _ (λ s. ap (λ x. nodeOk cs (search .set) (search .count) x (search .barred) (spot n s run)) start)
+  module _ (best : Copy) (most : best .finish ≤ d + 1) where
+    place-below : best .finish ≡ finishBelow (placeBy best d) d
+    unfolding placeBy
+    place-below =
+        split (leb (best .finish) d)
+        (λ e. ap (λ o. finishBelow o d) (sym (some-when _ best e)))
+        (λ e. let late = leb-false (best .finish) d e in let is : best .finish ≡ d + 1 = omega arith in is ∙ ap (λ o. finishBelow o d) (sym (none-when _ best e)))
 
-  pub asked-node : (task : Task) (nodes below : ℕ) → Searched cs task nodes search → n < nodes → below ≤ task .deadline + 1
-      → AskedNode cs (record { count = search .count; node = n; set = search .set; run = getD (task .run) n 0; below = below }) from
-  asked-node task nodes below pre p q =
+    module _ (n s run : ℕ) where
+      sooner-most : soonerOf best n s run .finish ≤ d + 1
+      unfolding soonerOf
+      sooner-most = split (ltb (s + run) (best .finish)) (λ e. let p = ltb-true (s + run) (best .finish) e in rw e (omega arith)) (λ e. rw e most)
+
+      sooner-is : placeBy (soonerOf best n s run) d ≡ (startedAt n run (best .finish) s or-else placeBy best d)
+      unfolding placeBy soonerOf startedAt when _or-else_
+      sooner-is =
+          split (ltb (s + run) (best .finish))
+          (λ e. let p = ltb-true (s + run) (best .finish) e in rw (e, le-leb (s + run) d (omega arith)))
+          (λ e. rw e)
+
+-- a search over the first k nodes
+module _ (cs : Copies) (before last : List ℕ) (search : Search) where
+  pub record Best (k : ℕ) (best : Copy) : Type 0 where
+    pub within : k ≤ search .nodes
+    pub most : best .finish ≤ search .task .deadline + 1
+    pub is : placeBy best (search .task .deadline) ≡ bestOf (search .task .run) (suc (search .task .deadline)) (fits cs last search) k
+
+  pub first-best : (best : Copy) → best ≡ noPlace (search .task .deadline) → Best 0 best
+  first-best best e =
       record {
-        count = pre .count;
-        node = omega (arith, pre .nodes-most);
-        run = pre .run n p;
-        below = omega (arith, pre .deadline);
-        soon = omega (arith, pre .ready n (omega (arith, pre .nodes-most)), pre .least);
-        ends = pre .ends;
+        within = omega arith;
+        most = omega (arith, ap (λ c. c .finish) e);
+        is = ap (λ c. placeBy c (search .task .deadline)) e ∙ nowhere-none (search .task .deadline) ∙ best-start _ _ _;
       }
 
--- places by their cases
-pub newer-old : (a b : Slot) → a ≡ Nothing → slotCopy b ≡ (slotCopy a or-else slotCopy b)
-unfolding _or-else_
-newer-old a b e = rw e
+  module _ (pre : Searched cs before last search) (n : ℕ) (best : Copy) (so-far : Best n best) (below : n < search .nodes) where
+    abbrev run : ℕ
+    run = getD (search .task .run) n 0
 
-pub newer-new : (a b : Slot) {c : Copy} → a ≡ At c → slotCopy a ≡ (slotCopy a or-else slotCopy b)
-unfolding _or-else_
-newer-new a b {c} e = rw e
+    few : n < maxNodes
+    few = omega (arith, pre .nodes-most)
+
+    next : (r : Copy) (b : Option Copy) → r .finish ≤ search .task .deadline + 1 → b ≡ onNode n run (best .finish) (fits cs last search)
+        → placeBy r (search .task .deadline) ≡ (b or-else placeBy best (search .task .deadline)) → Best (n + 1) r
+    next r b most e h =
+        record {
+          within = omega arith;
+          most = most;
+          is = best-more _ _ _ n _ b _ (best .finish) (so-far .is) (place-below _ best (so-far .most)) e h;
+        }
+
+    -- the node's part of the search
+    fits-here : (from : ℕ) → from ≡ max (readyOn (search .ready) n) (search .least)
+        → onNode n run (best .finish) (nodeOk cs (search .set) (getD last n 0) from (search .barred)) ≡ onNode n run (best .finish) (fits cs last search)
+    unfolding fits
+    fits-here from start =
+        on-node-same n run (best .finish) _ _ (λ s. ap (λ x. nodeOk cs (search .set) (getD last n 0) x (search .barred) (spot n s run)) start)
+
+    -- a node that may not have the copy
+    pub best-passed : (r : Copy) → (ltb 0 run and not (has (search .barred) n)) ≡ false → r ≡ best → Best (n + 1) r
+    unfolding _or-else_ _and_
+    best-passed r h e = subst (Best (n + 1)) (sym e) (split (ltb 0 run)
+        (λ e. next best none (so-far .most)
+        (barred-nothing cs (search .set) (getD last n 0) _ (search .barred) n run (best .finish) (not-x _ (rw e at h)) ∙ fits-here _ refl) refl)
+        (λ e. next best none (so-far .most) (on-node-unable n (best .finish) _ run (let z = ltb-false 0 run e in omega arith)) refl))
+
+    -- one that may
+    module _ (may : (ltb 0 run and not (has (search .barred) n)) ≡ true) (from : ℕ) (start : from ≡ max (readyOn (search .ready) n) (search .least)) where
+      abbrev ask : Ask
+      ask = record { last = getD last n 0; node = n; set = search .set; run = run; below = best .finish }
+
+      pub asked : Asked cs before ask from
+      asked =
+          record {
+            last = pre .lasts n few;
+            chain = pre .chains n few;
+            run = pre .run n below;
+            able = ltb-true 0 run (and-l _ _ may);
+            below = omega (arith, so-far .most, pre .deadline);
+            soon = omega (arith, pre .ready n, pre .least);
+            ends = pre .ends n few;
+          }
+
+      pub best-next : (s : ℕ) (r : Copy) → startedAt n run (best .finish) s ≡ onNode n run (best .finish) (freeFrom cs (search .set) (getD last n 0) from)
+          → r ≡ soonerOf best n s run → Best (n + 1) r
+      best-next s r e h =
+          next r (startedAt n run (best .finish) s)
+          (subst (λ c. c .finish ≤ search .task .deadline + 1) (sym h) (sooner-most _ best (so-far .most) n s run))
+          (e ∙ unbarred cs (search .set) (getD last n 0) from (search .barred) n run (best .finish) (not-e _ (and-r _ _ may)) ∙ fits-here from start)
+          (ap (λ c. placeBy c (search .task .deadline)) h ∙ sooner-is _ best (so-far .most) n s run)
+
+-- the last node is behind
+pub best-found : (cs : Copies) (before last : List ℕ) (search : Search) (n : ℕ) (best : Copy) (o : Option Copy) → Best cs before last search n best → search .nodes ≤ n
+    → o ≡ placeBy best (search .task .deadline) → o ≡ bestOf (search .task .run) (suc (search .task .deadline)) (fits cs last search) (search .nodes)
+best-found cs before last search n best o h p e = e ∙ best-done _ _ _ n (search .nodes) _ (omega (arith, h .within)) (h .is)
+
+pub start-at : (r : Ready) (n least ready from : ℕ) → ready ≡ readyOn r n → from ≡ max ready least → from ≡ max (readyOn r n) least
+start-at r n least ready from e h = h ∙ ap (λ x. max x least) e
+
+-- the small steps by their cases
+module _ (best : Copy) (n s run : ℕ) where
+  pub sooner-yes : s + run < best .finish → spot n s run ≡ soonerOf best n s run
+  unfolding soonerOf
+  sooner-yes p = rw (lt-ltb (s + run) (best .finish) p)
+
+  pub sooner-no : best .finish ≤ s + run → best ≡ soonerOf best n s run
+  unfolding soonerOf
+  sooner-no p = rw (le-ltb (s + run) (best .finish) p)
+
+module _ (best : Copy) (deadline : ℕ) where
+  pub place-yes : best .finish ≤ deadline → some best ≡ placeBy best deadline
+  unfolding placeBy
+  place-yes p = sym (some-when _ best (le-leb (best .finish) deadline p))
+
+  pub place-no : deadline < best .finish → none ≡ placeBy best deadline
+  unfolding placeBy
+  place-no p = sym (none-when _ best (lt-leb (best .finish) deadline p))

@@ -1,26 +1,25 @@
--- The fault set as bits, sender by sender.
-use Prim.Native.Nat.{ℕ, _+_, _*_, _^_, _≤_, _<_}
+-- The fault set as bits, link by link along the chain of a task's links.
+use Prim.Native.Nat.{ℕ, _+_, _-_, _*_, _^_}
 use mathlib.Core.Bool.{Bool, true, false, not}
 use mathlib.Core.List.{List}
-use mathlib.Core.Path.{_≡_, refl, sym, _∙_, ap, subst}
+use mathlib.Core.Path.{_≡_, refl, sym, _∙_, ap}
 use lib.Bits.{bitOr}
 use lib.Dec.{eqb}
 use lib.ListN.{getD}
-use native.Mathlib.Omega.{arith}
 use Rattle.reader.specs.Tests.{_and_, _or_}
 use Rattle.reader.specs.First.{any}
 use Rattle.reader.proofs.TestLaws.{or-none, or-join}
-use Rattle.reader.proofs.FirstLaws.{any-more, any-start}
+use Rattle.reader.proofs.FirstLaws.{any-start}
 use Rattle.rules.specs.declared.Copy.{Copy}
-use Rattle.copies.specs.declared.table.Copies.{Copies}
 use Rattle.copies.specs.Sets.{has}
 use Rattle.copies.specs.Arrival.{inTimeOf}
-use Rattle.copies.specs.Table.{entry, setAt}
+use Rattle.copies.specs.Chain.{Chain}
 use Rattle.copies.proofs.SetLaws.{has-none, has-one, has-union}
-use Rattle.planner.specs.Senders.{pairAt}
-use Rattle.planner.specs.Inputs.{entryInTime}
-use Rattle.planner.specs.Faults.{carriedOf, carriesFrom, Faulted}
+use Rattle.planner.specs.Senders.{Sending}
+use Rattle.planner.specs.Faults.{carriedOf, carriesTo, Faulted}
+use Rattle.planner.proofs.SenderLaws.{any-asked, Walk, walk-start, walk-tip, walk-chain, walk-next}
 
+-- what one link carries
 module _ (delay from finish set own start : ℕ) where
   pub carried-strong : inTimeOf delay from finish own start ≡ true → 0 ≡ carriedOf delay from finish set own start
   unfolding carriedOf
@@ -39,33 +38,49 @@ module _ (delay from finish set own start : ℕ) where
       by true e = rw e (has-none q)
       by false e = rw e
 
-module _ (senders : ℕ) (delay : List ℕ) (cs : Copies) (j : ℕ) (p : Copy) where
-  abbrev over : ℕ → ℕ → Bool
-  over = carriesFrom senders delay cs j p
+or-swap : (a b : Bool) → (a or b) ≡ (b or a)
+unfolding _or_
+or-swap true true = refl
+or-swap true false = refl
+or-swap false true = refl
+or-swap false false = refl
 
-  pub faulted-start : (set : ℕ) → set ≡ 2 ^ p .node → Faulted senders delay cs j p 0 set
-  faulted-start set e = record { within = omega arith; is = λ q. rw (e, any-start, or-none) (has-one (p .node) q) }
+-- along the chains that begin at `last`
+module _ (before from delay node finish sets : List ℕ) (last : ℕ) (p : Copy) where
+  abbrev over : (ℕ → ℕ) → ℕ → ℕ → ℕ → Bool
+  over = carriesTo before from delay node finish sets last p
 
-  module _ (i : ℕ) (below : i < j) (set : ℕ) (h : Faulted senders delay cs j p i set) where
-    -- one task more, by what it carries
-    join : (next q : ℕ) (x : Bool) → over q i ≡ x → has next q ≡ (has set q or x) → has next q ≡ (eqb (p .node) q or any (i + 1) (over q))
-    join next q x b g =
-        g ∙ ap (λ y. y or x) (h .is q) ∙ or-join _ _ _
-        ∙ ap (λ y. eqb (p .node) q or y) (sym (any-more i (over q) ∙ ap (λ y. any i (over q) or y) b))
+  -- the set has p's node and what the links passed carry, down to `left`
+  pub record Faulting (left set : ℕ) : Type 0 where
+    pub walk : Walk before last left
+    pub is : (key : ℕ → ℕ) (j : ℕ) → Chain key before j last → (q : ℕ) → (has set q or any left (over key j q)) ≡ (eqb (p .node) q or any last (over key j q))
 
-    pub faulted-other : has senders i ≡ false → Faulted senders delay cs j p (i + 1) set
-    unfolding _and_
-    faulted-other e = record { within = omega arith; is = λ q. join set q false (rw e) (sym (or-none _)) }
+  pub faulting-start : (set : ℕ) → set ≡ 2 ^ p .node → Faulting last set
+  faulting-start set e =
+      record { walk = walk-start before last; is = λ key j c q. ap (λ b. b or any last (over key j q)) (ap (λ s. has s q) e ∙ has-one (p .node) q) }
 
-    pub faulted-more : has senders i ≡ true → (more : ℕ)
-        → more ≡ carriedOf (getD delay (pairAt j i) 0) (entry cs (2 * i + 1) .node) (entry cs (2 * i + 1) .finish) (setAt cs (2 * i + 1)) (p .node) (p .start)
-        → Faulted senders delay cs j p (i + 1) (bitOr set more)
-    unfolding _and_
-    faulted-more e more is =
+  -- one link more
+  module _ (pre : Sending before from delay finish last) (left : ℕ) (more : left ≡ 0 → ⊥) where
+    abbrev k : ℕ
+    k = left - 1
+
+    abbrev i : ℕ
+    i = 2 * getD from k 0 + 1
+
+    pub faulting-more : (set new : ℕ) → Faulting left set → new ≡ carriedOf (getD delay k 0) (getD node i 0) (getD finish i 0) (getD sets i 0) (p .node) (p .start)
+        → Faulting (getD before k 0) (bitOr set new)
+    faulting-more set new h e =
         record {
-          within = omega arith;
-          is = λ q. join _ q _ (rw e) (has-union set more q ∙ ap (λ y. has set q or y) (ap (λ y. has y q) is ∙ has-carried _ _ _ _ _ _ q));
+          walk = walk-next before from delay finish last pre left (h .walk) more;
+          is = λ key j c q.
+              let rest = any (getD before k 0) (over key j q) in
+              ap (λ b. b or rest) (has-union set new q) ∙ or-join _ _ _
+              ∙ ap (λ b. has set q or b) (or-swap (has new q) rest ∙ ap (λ b. rest or b) (ap (λ s. has s q) e ∙ has-carried _ _ _ _ _ _ q)
+              ∙ sym (any-asked key before j k (walk-chain before last left (h .walk) more key j c) _)
+              ∙ ap (λ n. any n (over key j q)) (sym (walk-tip before last left (h .walk) more)))
+              ∙ h .is key j c q;
         }
 
-  pub faulted-done : (k set : ℕ) → k ≡ j → Faulted senders delay cs j p k set → Faulted senders delay cs j p j set
-  faulted-done k set e h = subst (λ n. Faulted senders delay cs j p n set) e h
+  pub faulting-done : (left set : ℕ) → left ≡ 0 → Faulting left set → Faulted before from delay node finish sets last p set
+  faulting-done left set e h key j c q =
+      sym (ap (λ b. has set q or b) (ap (λ n. any n (over key j q)) e ∙ any-start (over key j q)) ∙ or-none _) ∙ h .is key j c q

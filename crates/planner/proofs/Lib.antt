@@ -1,9 +1,9 @@
-pub mod OrderLaws
 pub mod SenderLaws
+pub mod InputLaws
+pub mod FaultLaws
 pub mod ListLaws
 pub mod LeapLaws
 pub mod BestLaws
-pub mod InputLaws
-pub mod FaultLaws
+pub mod SentLaws
 pub mod KeepsLaws
 pub mod TaskLaws

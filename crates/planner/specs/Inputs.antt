@@ -1,47 +1,72 @@
 -- When the inputs of a task are on each node.
-use Prim.Native.Nat.{ℕ, _+_, _*_, _≤_, _<_, max}
-use mathlib.Core.Bool.{Bool}
+use Prim.Native.Nat.{ℕ, _+_, _*_, _≤_}
+use mathlib.Core.Bool.{Bool, true, cond}
 use mathlib.Core.List.{List}
 use mathlib.Core.Path.{_≡_}
-use lib.Dec.{leb}
-use lib.ListN.{getD, length}
+use lib.Dec.{leb, ltb, eqb}
+use lib.ListN.{getD}
 use Rattle.reader.specs.Tests.{_and_, _implies_}
 use Rattle.reader.specs.First.{every}
-use Rattle.reader.specs.Limits.{maxNodes}
+use Rattle.reader.specs.Limits.{maxStart, maxTime}
 use Rattle.rules.specs.declared.Copy.{Copy}
-use Rattle.copies.specs.declared.table.Copies.{Copies}
-use Rattle.copies.specs.Sets.{has}
-use Rattle.copies.specs.Arrival.{delayOf, inTimeOf}
-use Rattle.copies.specs.Table.{entry}
-use Rattle.planner.specs.Senders.{pairAt}
-use Rattle.planner.specs.Search.{latestInput}
+use Rattle.copies.specs.Arrival.{inTimeOf}
+use Rattle.copies.specs.Chain.{Chain}
+use Rattle.planner.specs.declared.inputs.Reach.{Reach}
+use Rattle.planner.specs.declared.inputs.Ready.{Ready}
+use Rattle.planner.specs.declared.inputs.Reaches.{Reaches}
+use Rattle.planner.specs.declared.inputs.Owns.{Owns}
+use Rattle.planner.specs.declared.inputs.Inputs.{Inputs}
 
--- after one result more, on the first k nodes
-pub record Fed (ready : List ℕ) (delay from finish k : ℕ) (r : List ℕ) : Type 0 where
-  pub size : length r ≡ maxNodes
-  pub below : (n : ℕ) → n < k → getD r n 0 ≡ max (getD ready n 0) (finish + delayOf delay from n)
-  pub above : (n : ℕ) → k ≤ n → getD r n 0 ≡ getD ready n 0
+-- from when all is on node n
+unfoldable pub readyOn : Ready → ℕ → ℕ
+readyOn r n = cond (eqb n (r .node)) (r .own) (r .all)
 
--- of senders with these delays to j, and their entries
-module _ (senders : ℕ) (delay : List ℕ) (cs : Copies) (j : ℕ) (d : Copy) where
-  -- entry k, of task i, is in time for d
-  abbrev pub entryInTime : ℕ → ℕ → Bool
-  entryInTime i k = inTimeOf (getD delay (pairAt j i) 0) (entry cs k .node) (entry cs k .finish) (d .node) (d .start)
+-- no input arrives later
+abbrev pub latestInput : ℕ
+latestInput = maxStart + maxTime + maxTime
 
-  -- the primary of task i, if it sends, is in time; and both its copies are
+unfoldable pub fartherOf : Reach → ℕ → ℕ → Reach
+fartherOf r from at = cond (ltb (r .at) at) (record { at = at; from = from }) r
+
+-- of links with these senders and delays, of which link m leads to key m, over copies with these nodes and finishes
+module _ (from delay node finish : List ℕ) (key : ℕ → ℕ) (j : ℕ) (d : Copy) where
+  -- the result of copy k comes by link m in time for d
+  abbrev pub copyInTime : ℕ → ℕ → Bool
+  copyInTime m k = inTimeOf (getD delay m 0) (getD node k 0) (getD finish k 0) (d .node) (d .start)
+
+  -- link m, if it leads to j, brings the primary's result in time; and those of both copies
   abbrev pub primaryFed : ℕ → Bool
-  primaryFed i = has senders i implies entryInTime i (2 * i)
+  primaryFed m = eqb (key m) j implies copyInTime m (2 * getD from m 0)
 
   abbrev pub bothFed : ℕ → Bool
-  bothFed i = has senders i implies entryInTime i (2 * i) and entryInTime i (2 * i + 1)
+  bothFed m = eqb (key m) j implies copyInTime m (2 * getD from m 0) and copyInTime m (2 * getD from m 0 + 1)
 
--- the times r say when the test holds of the first k tasks
-pub record Ready (test : Copy → ℕ → Bool) (k : ℕ) (r : List ℕ) : Type 0 where
-  pub most : (n : ℕ) → n < maxNodes → getD r n 0 ≤ latestInput
-  pub is : (d : Copy) → d .node < maxNodes → leb (getD r (d .node) 0) (d .start) ≡ every k (test d)
+-- the latest arrival of all that the test asks of the first n links
+pub record Farthest (test : Copy → ℕ → Bool) (n : ℕ) (r : Reach) : Type 0 where
+  pub covers : (d : Copy) → r .at ≤ d .start → every n (test d) ≡ true
+  pub reached : (d : Copy) → (d .node ≡ r .from → ⊥) → every n (test d) ≡ true → r .at ≤ d .start
 
--- the inputs of task j from the first k tasks
-pub record Given (senders : ℕ) (delay : List ℕ) (cs : Copies) (j k : ℕ) (primary backup : List ℕ) : Type 0 where
-  pub within : k ≤ j
-  pub for-primary : Ready (primaryFed senders delay cs j) k primary
-  pub for-backup : Ready (bothFed senders delay cs j) k backup
+-- the time on node q from which the test holds of the first n links
+abbrev pub OwnTime : (Copy → ℕ → Bool) → ℕ → ℕ → ℕ → Type 0
+OwnTime test n q own = (d : Copy) → d .node ≡ q → leb own (d .start) ≡ every n (test d)
+
+-- the same on every node
+abbrev pub ReadyTime : (Copy → ℕ → Bool) → ℕ → Ready → Type 0
+ReadyTime test n r = (d : Copy) → leb (readyOn r (d .node)) (d .start) ≡ every n (test d)
+
+-- along the chain of links that begins at `last`, whatever task it leads to
+module _ (before from delay node finish : List ℕ) (last : ℕ) where
+  pub record Reached (r : Reaches) : Type 0 where
+    pub most : (r .primary .at ≤ latestInput) × (r .backup .at ≤ latestInput)
+    pub primary : (key : ℕ → ℕ) (j : ℕ) → Chain key before j last → Farthest (primaryFed from delay node finish key j) last (r .primary)
+    pub backup : (key : ℕ → ℕ) (j : ℕ) → Chain key before j last → Farthest (bothFed from delay node finish key j) last (r .backup)
+
+  pub record Owned (p b : ℕ) (r : Owns) : Type 0 where
+    pub most : (r .primary ≤ latestInput) × (r .backup ≤ latestInput)
+    pub primary : (key : ℕ → ℕ) (j : ℕ) → Chain key before j last → OwnTime (primaryFed from delay node finish key j) last p (r .primary)
+    pub backup : (key : ℕ → ℕ) (j : ℕ) → Chain key before j last → OwnTime (bothFed from delay node finish key j) last b (r .backup)
+
+  pub record Given (r : Inputs) : Type 0 where
+    pub most : (n : ℕ) → (readyOn (r .primary) n ≤ latestInput) × (readyOn (r .backup) n ≤ latestInput)
+    pub primary : (key : ℕ → ℕ) (j : ℕ) → Chain key before j last → ReadyTime (primaryFed from delay node finish key j) last (r .primary)
+    pub backup : (key : ℕ → ℕ) (j : ℕ) → Chain key before j last → ReadyTime (bothFed from delay node finish key j) last (r .backup)

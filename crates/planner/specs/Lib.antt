@@ -1,5 +1,5 @@
 pub mod Senders
-pub mod Search
 pub mod Inputs
+pub mod Search
 pub mod Faults
 pub mod Tasks

@@ -1,8 +1,6 @@
 // The fault set of a task.
-use crate::senders::Senders;
 use copies::arrival::arrives;
 use copies::sets::bit_of_node;
-use copies::sets::holds_task;
 use copies::table::Copies;
 use reader::job::Job;
 use rules::Copy;
@@ -24,26 +22,27 @@ pub fn carried(delay: u32, from: u32, finish: u32, set: u32, primary: Copy) -> u
     set
 }
 
-// Of task j with this primary: its node, and what the links to it carry.
-pub fn fault_set(
-    senders: u64,
-    delay: &[u32; Senders::PAIRS],
-    copies: Copies,
-    j: usize,
+// Of a task with this primary: its node, and what the links to it carry. The chain of the links begins at `last`.
+pub fn fault_set<'l, 'c>(
+    before: &'l [usize; Job::MAX_LINKS],
+    from: &'l [usize; Job::MAX_LINKS],
+    delay: &'l [u32; Job::MAX_LINKS],
+    node: &'c [u32; Copies::COUNT],
+    finish: &'c [u32; Copies::COUNT],
+    sets: &'c [u32; Copies::COUNT],
+    last: usize,
     primary: Copy,
 ) -> u32
-    requires { ⌜ Sending (now delay) copies j × (primary .node < maxNodes) ⌝ }
-    ensures { λ r. ⌜ Faulted senders (now (delay .entry)) copies j primary j r ⌝ }
+    requires { ⌜ Sending (now before) (now from) (now delay) (now finish) last × (primary .node < maxNodes) ⌝ }
+    ensures { λ r. ⌜ Faulted (now (before .entry)) (now (from .entry)) (now (delay .entry)) (now (node .entry)) (now (finish .entry)) (now (sets .entry)) last primary r ⌝ }
 {
     let mut set = bit_of_node(primary.node);
-    let mut i: usize = 0;
-    while i < j {
-        if holds_task(senders, i) {
-            let k = 2 * i + 1;
-            let d = delay[Job::MAX_TASKS * j + i];
-            set = set | carried(d, copies.node[k], copies.finish[k], copies.set[k], primary);
-        }
-        i += 1;
+    let mut left = last;
+    while left != 0 {
+        let m = left - 1;
+        let k = 2 * from[m] + 1;
+        set = set | carried(delay[m], node[k], finish[k], sets[k], primary);
+        left = before[m];
     }
     set
 }

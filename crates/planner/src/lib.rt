@@ -7,8 +7,10 @@ use crate::places::primary_search;
 use crate::search::best_slot;
 use crate::senders::Senders;
 use crate::slot::Slot;
+use copies::chain::join;
 use copies::sets::ALL;
 use copies::table::Copies;
+use copies::table::put;
 use reader::job::Job;
 use reader::plan::Plan;
 use reader::refusal::Answer;
@@ -48,32 +50,56 @@ pub fn plan_job(job: Job) -> Planned
 {
     let n = job.task_count as usize;
     let nodes = job.node_count as usize;
-    let links = Senders::of(job);
-    let mut copies = Copies::empty();
+    let net = Senders::of(job);
+    let mut node = [0u32; Copies::COUNT];
+    let mut start = [0u32; Copies::COUNT];
+    let mut finish = [0u32; Copies::COUNT];
+    let mut sets = [0u32; Copies::COUNT];
+    let mut before = [0usize; Copies::COUNT];
+    let mut last = [0usize; Job::MAX_NODES];
     let mut j: usize = 0;
     while j < n {
         let task = job.tasks[j];
-        let into = links.into[j];
-        let given = gather(into, &links.delay, copies, j);
-        let a = best_slot(copies, task, nodes, primary_search(given, j));
+        let into = net.last[j];
+        let given = gather(&net.before, &net.from, &net.delay, &node, &finish, into);
+        let first = primary_search(task, nodes, given);
+        let a = best_slot(&node, &start, &finish, &sets, &before, &last, first);
         let Slot::At(p) = a else {
             return unplanned(Refusal::NoPrimary(j));
         };
-        let set = fault_set(into, &links.delay, copies, j, p);
+        let set = fault_set(
+            &net.before,
+            &net.from,
+            &net.delay,
+            &node,
+            &finish,
+            &sets,
+            into,
+            p,
+        );
         let i = p.node as usize;
-        let node = job.nodes[i];
-        let search = backup_search(given, j, p.finish + node.detect, set);
-        let b = best_slot(copies, task, nodes, search);
+        let w = job.nodes[i];
+        let second = backup_search(task, nodes, given, p.finish + w.detect, set);
+        let b = best_slot(&node, &start, &finish, &sets, &before, &last, second);
         let Slot::At(q) = b else {
             return unplanned(Refusal::NoBackup(j));
         };
-        let first = copies.with(2 * j, p, ALL);
-        let next = first.with(2 * j + 1, q, set);
-        copies = next;
+        put(&mut node, &mut start, &mut finish, &mut sets, 2 * j, p, ALL);
+        put(
+            &mut node,
+            &mut start,
+            &mut finish,
+            &mut sets,
+            2 * j + 1,
+            q,
+            set,
+        );
+        join(&mut before, &mut last, 2 * j, p.node);
+        join(&mut before, &mut last, 2 * j + 1, q.node);
         j += 1;
     }
     Planned {
         answer: Answer::Done,
-        plan: plan_of(copies, n),
+        plan: plan_of(&node, &start, n),
     }
 }

@@ -3,56 +3,61 @@ use crate::inputs::Inputs;
 use crate::search::Search;
 use copies::sets::ALL;
 use copies::table::Copies;
+use reader::job::Task;
 use reader::plan::Place;
 use reader::plan::Plan;
 ghost use mathlib.Core.Path.{_≡_};
-ghost use Prim.Native.Nat.{_≤_, _<_};
+ghost use Prim.Native.Nat.{_≤_};
 ghost use Rattle.reader.specs.Limits.{maxTasks};
 ghost use Rattle.planner.specs.Search.{primarySearch, backupSearch};
 ghost use Rattle.planner.specs.Tasks.{listed, placesTo};
 
-pub fn primary_search(given: Inputs, j: usize) -> Search
-    requires { ⌜ j < maxTasks ⌝ }
-    ensures { λ r. ⌜ r ≡ primarySearch (given .primary) j ⌝ }
+pub fn primary_search(task: Task, nodes: usize, given: Inputs) -> Search
+    ensures { λ r. ⌜ r ≡ primarySearch task nodes (given .primary) ⌝ }
 {
     let ready = given.primary;
     Search {
+        task,
+        nodes,
         ready,
         least: 0,
         set: ALL,
         barred: 0,
-        count: 2 * j,
     }
 }
 
-pub fn backup_search(given: Inputs, j: usize, least: u32, faults: u32) -> Search
-    requires { ⌜ j < maxTasks ⌝ }
-    ensures { λ r. ⌜ r ≡ backupSearch (given .backup) j least faults ⌝ }
+pub fn backup_search(task: Task, nodes: usize, given: Inputs, least: u32, faults: u32) -> Search
+    ensures { λ r. ⌜ r ≡ backupSearch task nodes (given .backup) least faults ⌝ }
 {
     let ready = given.backup;
     Search {
+        task,
+        nodes,
         ready,
         least,
         set: faults,
         barred: faults,
-        count: 2 * j,
     }
 }
 
-// The plan of the first n tasks.
-pub fn plan_of(copies: Copies, n: usize) -> Plan
+// The plan of the first n tasks, whose copies have these nodes and starts.
+pub fn plan_of<'c>(
+    node: &'c [u32; Copies::COUNT],
+    start: &'c [u32; Copies::COUNT],
+    n: usize,
+) -> Plan
     requires { ⌜ n ≤ maxTasks ⌝ }
-    ensures { λ r. ⌜ r ≡ listed n (placesTo copies n) ⌝ }
+    ensures { λ r. ⌜ r ≡ listed n (placesTo (now (node .entry)) (now (start .entry)) n) ⌝ }
 {
     let mut plan = Plan::empty();
     let mut j: usize = 0;
     while j < n {
         let k = 2 * j;
         plan.places[j] = Place {
-            primary_node: copies.node[k],
-            primary_start: copies.start[k],
-            backup_node: copies.node[k + 1],
-            backup_start: copies.start[k + 1],
+            primary_node: node[k],
+            primary_start: start[k],
+            backup_node: node[k + 1],
+            backup_start: start[k + 1],
         };
         j += 1;
     }

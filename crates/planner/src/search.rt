@@ -1,48 +1,57 @@
 // The search for a copy's place: the earliest free start on each node, and the best of the nodes.
+use crate::inputs::Ready;
+use crate::inputs::ready_on;
 use crate::slot::Slot;
-use crate::slot::finish_below;
-use crate::slot::newer;
+use crate::slot::may_run;
+use crate::slot::nowhere;
+use crate::slot::slot_by;
+use crate::slot::sooner;
 use copies::arrival::later;
 use copies::clash::clash_end;
-use copies::sets::holds_node;
 use copies::table::Copies;
 use reader::job::Job;
 use reader::job::Task;
 use rules::Copy;
 ghost use mathlib.Core.Path.{_≡_};
-ghost use Prim.Native.Nat.{suc};
+ghost use Prim.Native.Nat.{suc, _≤_};
 ghost use Rattle.copies.specs.Table.{table};
-ghost use Rattle.planner.specs.Search.{slotCopy, onNode, freeFrom, nodeOk, fits, bestOf, Asked, AskedNode, Searched};
+ghost use Rattle.planner.specs.Inputs.{latestInput};
+ghost use Rattle.planner.specs.Search.{slotCopy, startedAt, onNode, freeFrom, fits, bestOf, Asked, Searched};
 
-// What is asked of one node: a place for a copy of this set, that runs so long and finishes below, beside the first `count` entries.
+// What is asked of one node: a place for a copy of this set, that runs so long and finishes below, beside the entries whose chain
+// begins at `last`.
 pub struct Ask {
-    pub count: usize,
+    pub last: usize,
     pub node: u32,
     pub set: u32,
     pub run: u32,
     pub below: u32,
 }
 
-// What is asked of all nodes: when the inputs are on each, the least start, the copy's set, and the nodes that it may not have.
+// What is asked of all nodes for a copy of a task: when the inputs are on each, the least start, the copy's set, and the nodes that it
+// may not have.
 pub struct Search {
-    pub ready: [u32; Job::MAX_NODES],
+    pub task: Task,
+    pub nodes: usize,
+    pub ready: Ready,
     pub least: u32,
     pub set: u32,
     pub barred: u32,
-    pub count: usize,
 }
 
-// The earliest place on a node from a start on: each clash leaps to its end.
+// The earliest start on a node from a start on, each clash leaping to its end; one that finishes too late where there is none.
 pub fn first_free<'c>(
     node: &'c [u32; Copies::COUNT],
     start: &'c [u32; Copies::COUNT],
     finish: &'c [u32; Copies::COUNT],
     sets: &'c [u32; Copies::COUNT],
+    before: &'c [usize; Copies::COUNT],
     ask: Ask,
     from: u32,
-) -> Slot
-    requires { ⌜ Asked (table (now node) (now start) (now finish) (now sets)) ask from ⌝ }
-    ensures { λ r. ⌜ slotCopy r ≡ onNode (ask .node) (ask .run) (ask .below) (freeFrom (table (now (node .entry)) (now (start .entry)) (now (finish .entry)) (now (sets .entry))) (ask .set) (ask .count) from) ⌝ }
+) -> u32
+    requires { ⌜ Asked (table (now node) (now start) (now finish) (now sets)) (now before) ask from ⌝ }
+    ensures { λ r. ⌜ r ≤ latestInput ⌝ }
+    ensures { λ r. ⌜ startedAt (ask .node) (ask .run) (ask .below) r ≡ onNode (ask .node) (ask .run) (ask .below) (freeFrom (table (now (node .entry)) (now (start .entry)) (now (finish .entry)) (now (sets .entry))) (ask .set) (ask .last) from) ⌝ }
 {
     let run = ask.run;
     let below = ask.below;
@@ -53,63 +62,48 @@ pub fn first_free<'c>(
             start: s,
             finish: s + run,
         };
-        let end = clash_end(node, start, finish, sets, ask.count, copy, ask.set);
+        let end = clash_end(node, start, finish, sets, before, ask.last, copy, ask.set);
         if end == 0 {
-            return Slot::At(copy);
+            return s;
         }
         s = end;
     }
-    Slot::Nothing
+    s
 }
 
-// The same, where the node can run the task and is not barred.
-pub fn node_slot<'c>(
+// The place with the earliest finish, then the lowest node: each node must beat those before it. At `last` the chain of each node begins.
+pub fn best_slot<'c>(
     node: &'c [u32; Copies::COUNT],
     start: &'c [u32; Copies::COUNT],
     finish: &'c [u32; Copies::COUNT],
     sets: &'c [u32; Copies::COUNT],
-    ask: Ask,
-    from: u32,
-    barred: u32,
+    before: &'c [usize; Copies::COUNT],
+    last: &'c [usize; Job::MAX_NODES],
+    search: Search,
 ) -> Slot
-    requires { ⌜ AskedNode (table (now node) (now start) (now finish) (now sets)) ask from ⌝ }
-    ensures { λ r. ⌜ slotCopy r ≡ onNode (ask .node) (ask .run) (ask .below) (nodeOk (table (now (node .entry)) (now (start .entry)) (now (finish .entry)) (now (sets .entry))) (ask .set) (ask .count) from barred) ⌝ }
+    requires { ⌜ Searched (table (now node) (now start) (now finish) (now sets)) (now before) (now last) search ⌝ }
+    ensures { λ r. ⌜ slotCopy r ≡ bestOf (search .task .run) (suc (search .task .deadline)) (fits (table (now (node .entry)) (now (start .entry)) (now (finish .entry)) (now (sets .entry))) (now (last .entry)) search) (search .nodes) ⌝ }
 {
-    if ask.run == 0 {
-        return Slot::Nothing;
-    }
-    if holds_node(barred, ask.node) {
-        return Slot::Nothing;
-    }
-    first_free(node, start, finish, sets, ask, from)
-}
-
-// The place with the earliest finish, then the lowest node: each node must beat those before it.
-pub fn best_slot(copies: Copies, task: Task, nodes: usize, search: Search) -> Slot
-    requires { ⌜ Searched copies task nodes search ⌝ }
-    ensures { λ r. ⌜ slotCopy r ≡ bestOf (task .run) (suc (task .deadline)) (fits copies search) nodes ⌝ }
-{
-    let mut best = Slot::Nothing;
+    let task = search.task;
+    let ready = search.ready;
+    let nodes = search.nodes;
+    let mut best = nowhere(task.deadline);
     let mut n: usize = 0;
     while n < nodes {
-        let ask = Ask {
-            count: search.count,
-            node: n as u32,
-            set: search.set,
-            run: task.run[n],
-            below: finish_below(best, task.deadline),
-        };
-        let slot = node_slot(
-            &copies.node,
-            &copies.start,
-            &copies.finish,
-            &copies.set,
-            ask,
-            later(search.ready[n], search.least),
-            search.barred,
-        );
-        best = newer(slot, best);
+        let run = task.run[n];
+        if may_run(run, search.barred, n as u32) {
+            let ask = Ask {
+                last: last[n],
+                node: n as u32,
+                set: search.set,
+                run,
+                below: best.finish,
+            };
+            let from = later(ready_on(ready, n as u32), search.least);
+            let s = first_free(node, start, finish, sets, before, ask, from);
+            best = sooner(best, n as u32, s, run);
+        }
         n += 1;
     }
-    best
+    slot_by(best, task.deadline)
 }

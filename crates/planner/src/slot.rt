@@ -1,33 +1,65 @@
 // Places for a copy.
+use copies::sets::holds_node;
 use rules::Copy;
 ghost use mathlib.Core.Path.{_≡_};
-ghost use Prim.Native.Nat.{_≤_};
-ghost use Rattle.reader.specs.First.{_or-else_};
-ghost use Rattle.reader.specs.Limits.{maxTime};
-ghost use Rattle.planner.specs.Search.{slotCopy, finishBelow};
+ghost use mathlib.Core.Bool.{not};
+ghost use Prim.Native.Nat.{_≤_, _<_};
+ghost use lib.Dec.{ltb};
+ghost use Rattle.reader.specs.Tests.{_and_};
+ghost use Rattle.reader.specs.Limits.{maxNodes, maxTime};
+ghost use Rattle.copies.specs.Sets.{has};
+ghost use Rattle.planner.specs.Inputs.{latestInput};
+ghost use Rattle.planner.specs.Search.{slotCopy, noPlace, soonerOf, placeBy};
 
 pub enum Slot {
     At(Copy),
     Nothing,
 }
 
-// The new place, where there is one.
-pub fn newer(new: Slot, old: Slot) -> Slot
-    ensures { λ r. ⌜ slotCopy r ≡ (slotCopy new or-else slotCopy old) ⌝ }
+// What a copy that is found must beat, before there is one: it finishes behind the deadline.
+pub fn nowhere(deadline: u32) -> Copy
+    requires { ⌜ deadline ≤ maxTime ⌝ }
+    ensures { λ r. ⌜ r ≡ noPlace deadline ⌝ }
 {
-    let Slot::At(_) = new else {
-        return old;
-    };
-    new
+    Copy {
+        node: 0,
+        start: 0,
+        finish: deadline + 1,
+    }
 }
 
-// A better place finishes below this: sooner than the best so far, and by the deadline.
-pub fn finish_below(best: Slot, deadline: u32) -> u32
-    requires { ⌜ deadline ≤ maxTime ⌝ }
-    ensures { λ r. ⌜ r ≡ finishBelow (slotCopy best) deadline ⌝ }
+// Whether node n can run the task, and is not barred.
+pub fn may_run(run: u32, barred: u32, n: u32) -> bool
+    requires { ⌜ n < maxNodes ⌝ }
+    ensures { λ r. ⌜ r ≡ (ltb 0 run and not (has barred n)) ⌝ }
 {
-    let Slot::At(c) = best else {
-        return deadline + 1;
-    };
-    c.finish
+    if run == 0 {
+        return false;
+    }
+    !holds_node(barred, n)
+}
+
+// The copy on node n from a start on, where it finishes sooner than the best so far.
+pub fn sooner(best: Copy, n: u32, start: u32, run: u32) -> Copy
+    requires { ⌜ (start ≤ latestInput) × (run ≤ maxTime) ⌝ }
+    ensures { λ r. ⌜ r ≡ soonerOf best n start run ⌝ }
+{
+    if start + run < best.finish {
+        return Copy {
+            node: n,
+            start,
+            finish: start + run,
+        };
+    }
+    best
+}
+
+// The best, if it finishes by the deadline.
+pub fn slot_by(best: Copy, deadline: u32) -> Slot
+    ensures { λ r. ⌜ slotCopy r ≡ placeBy best deadline ⌝ }
+{
+    if best.finish <= deadline {
+        return Slot::At(best);
+    }
+    Slot::Nothing
 }

@@ -4,7 +4,6 @@ pub mod progress;
 pub mod states;
 pub mod write;
 
-use crate::inputs::ready_by;
 use crate::inputs::sent_at;
 use crate::inputs::sent_from;
 use crate::progress::Progress;
@@ -12,6 +11,7 @@ use crate::states::Outcome;
 use crate::states::pair_of;
 use crate::states::settle;
 use crate::write::write_outcomes;
+use copies::arrival::ready_by;
 use reader::job::Job;
 use reader::plan::Plan;
 use rules::Loss;

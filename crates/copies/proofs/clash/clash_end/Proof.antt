@@ -1,32 +1,52 @@
 -- `copies::clash::clash_end` meets its contract.
 use borrow.Author.Needs.{needs}
-use Prim.Native.Nat.{_-_, _≤_}
-use mathlib.Core.Path.{_≡_}
 use native.Mathlib.Omega.{arith}
 use Rattle.copies.specs.Table.{table}
-use Rattle.copies.specs.Clash.{latest}
-use Rattle.copies.proofs.ClashLaws.{latest-start, latest-more, latest-done}
+use Rattle.copies.proofs.ClashLaws.{Passed, latest-start, latest-more, latest-less, latest-done}
 use Rattle.copies.proofs.clash.clash_end.Statement.{statement}
 use Rattle.copies.proofs.clash.clash_end.Tie as tie
 
 abbrev Inv-loop : tie.InvT-loop
-Inv-loop node start finish sets count copy set at₀ k₀ at k = (k ≤ count) × (at ≡ latest (table node start finish sets) set copy k)
+Inv-loop node start finish sets before last copy set at₀ left₀ at left = Passed (table node start finish sets) set copy before last left at
 
 abbrev μ-loop : tie.MeasureT-loop
-μ-loop node start finish sets count copy set at₀ k₀ at k = count - k
+μ-loop node start finish sets before last copy set at₀ left₀ at left = left
 
 loop-holds : tie.Need-loop-holds Inv-loop μ-loop
-loop-holds c = (omega arith, latest-start _ _ _)
+loop-holds c = latest-start _ _ _ _ _ (c .pre .1)
+
+element-copy-out-bound : tie.Need-element-copy-out-bound Inv-loop μ-loop
+element-copy-out-bound c = omega (arith, c .before .loop .inv .within, c .before .before .pre .0)
+
+loop-less : tie.Need-loop-less Inv-loop μ-loop
+loop-less c = latest-less _ _ _ _ _ _ _ _ (omega arith) (c .before .before .before .before .before .before .before .before .loop .inv)
 
 loop-again : tie.Need-loop-again Inv-loop μ-loop
-loop-again c = (omega arith, latest-more _ _ _ _ _ _ _ (c .before .before .before .before .before .before .before .loop .inv .1) (c .before .bound .ensures) (c .later .ensures))
+loop-again c = latest-more _ _ _ _ _ _ _ _ _ _ (omega arith) (c .before .before .before .before .before .before .before .before .loop .inv) (c .before .before .bound .ensures) (c .before .later .ensures)
 
 returns : tie.Need-returns Inv-loop μ-loop
-returns c = latest-done _ _ _ _ _ _ (omega arith) (c .before .loop .inv .1)
+returns c = latest-done _ _ _ _ _ _ _ (omega arith) (c .before .loop .inv)
 
 pub clash-end-spec : {M : Type 1} → statement M
 clash-end-spec =
     tie.close
-    (tie.spec Inv-loop μ-loop loop-holds (λ c. search needs) (λ c. search needs) (λ c. search needs) (λ c. search needs) (λ c. search needs) (λ c. search
-    needs) (λ c. search needs) (λ c. search needs) (λ c κs. search needs) (λ c κs. search needs) (λ c. search needs) (λ c. search needs) loop-again
+    (tie.spec
+    Inv-loop
+    μ-loop
+    loop-holds
+    (λ c. search needs)
+    (λ c. search needs)
+    element-copy-out-bound
+    (λ c. search needs)
+    (λ c. search needs)
+    (λ c. search needs)
+    (λ c. search needs)
+    (λ c. search needs)
+    (λ c. search needs)
+    (λ c κs. search needs)
+    (λ c κs. search needs)
+    (λ c. search needs)
+    (λ c. search needs)
+    loop-less
+    loop-again
     returns)

@@ -23,7 +23,7 @@ loop-holds : tie.Need-loop-holds Inv-loop μ-loop
 loop-holds c = clear-start _ _
 
 holds-node-requires : tie.Need-holds-node-requires Inv-loop μ-loop
-holds-node-requires c κs = omega (arith, c .before .before .before .before .pre .on (c .before .before .before .loop .j) (c .before .before .loop-test .taken))
+holds-node-requires c κs = omega (arith, c .before .before .before .before .pre .on (2 * c .before .before .before .loop .j + 1) (omega (arith, c .before .before .loop-test .taken)))
 
 returns : tie.Need-returns Inv-loop μ-loop
 unfolding lossBreach
@@ -39,6 +39,21 @@ returns-2 c = clear-done _ _ _ (c .before .loop .inv) (omega arith)
 pub common-loss-spec : {M : Type 1} → statement M
 common-loss-spec =
     tie.close
-    (tie.spec Inv-loop μ-loop loop-holds (λ c. search needs) (λ c. search needs) (λ c. search needs) (λ c. search needs) (λ c. search needs)
-    (λ c. search needs) (λ c. search needs) (λ c. search needs) holds-node-requires returns (λ c. search needs) (λ c. search needs) loop-again
+    (tie.spec
+    Inv-loop
+    μ-loop
+    loop-holds
+    (λ c. search needs)
+    (λ c. search needs)
+    (λ c. search needs)
+    (λ c. search needs)
+    (λ c. search needs)
+    (λ c. search needs)
+    (λ c. search needs)
+    (λ c. search needs)
+    holds-node-requires
+    returns
+    (λ c. search needs)
+    (λ c. search needs)
+    loop-again
     returns-2)

@@ -1,41 +1,21 @@
 -- `judge::overlaps::overlapping` meets its contract.
 use borrow.Author.Needs.{needs}
-use Prim.Native.Nat.{_-_}
-use mathlib.Core.Logic.{⊎-elim}
-use native.Mathlib.Omega.{arith}
-use Rattle.copies.specs.Table.{table}
-use Rattle.judge.specs.Overlaps.{pairBreach}
-use Rattle.judge.proofs.ScanLaws.{Clear, clear-start, clear-more, clear-stop, clear-done, done-none}
-use Rattle.judge.proofs.OverlapLaws.{pairs-none}
+use mathlib.Core.Path.{sym, ap}
+use Rattle.reader.specs.Refusals.{answered}
+use Rattle.judge.proofs.OverlapLaws.{none-found}
 use Rattle.judge.proofs.overlaps.overlapping.Statement.{statement}
 use Rattle.judge.proofs.overlaps.overlapping.Tie as tie
 
-abbrev Inv-loop : tie.InvT-loop
-Inv-loop node start finish sets n i₀ i = Clear n (pairBreach (table node start finish sets) n) i
+returns : tie.Need-returns
+returns c = ap answered (sym (none-found _ _ _ (c .before .clash-found .ensures) (c .if1 .taken)))
 
-abbrev μ-loop : tie.MeasureT-loop
-μ-loop node start finish sets n i₀ i = n - i
-
-loop-holds : tie.Need-loop-holds Inv-loop μ-loop
-loop-holds c = clear-start _ _
-
-hits-requires : tie.Need-hits-requires Inv-loop μ-loop
-hits-requires c κs = record { task = omega arith; rises = omega arith; within = omega arith }
-
-returns : tie.Need-returns Inv-loop μ-loop
-returns c = clear-stop _ _ _ (c .before .before .before .before .before .before .loop .inv) _ _ (c .before .before .before .before .before .loop-test .taken) (c .before .before .pairs-of .ensures) (c .enum-told2 .given .1)
-
-loop-again : tie.Need-loop-again Inv-loop μ-loop
-loop-again c =
-    ⊎-elim (λ w. clear-more _ _ _ (c .before .before .before .loop .inv) (c .before .before .loop-test .taken) (done-none _ _ (w .1 .ensures) (w .3 .given .1)))
-    (λ w. clear-more _ _ _ (c .before .before .before .loop .inv) (c .before .before .loop-test .taken) (pairs-none _ _ _ _ (c .before .hits .ensures) (w .left)))
-    (c .if1 .came)
-
-returns-2 : tie.Need-returns-2 Inv-loop μ-loop
-returns-2 c = clear-done _ _ _ (c .before .loop .inv) (omega arith)
+first-overlap-requires : tie.Need-first-overlap-requires
+first-overlap-requires c κs = c .before .before .pre .few
 
 pub overlapping-spec : {M : Type 1} → statement M
 overlapping-spec =
-    tie.close
-    (tie.spec Inv-loop μ-loop loop-holds (λ c. search needs) (λ c. search needs) (λ c. search needs) hits-requires (λ c κs. search needs)
-    (λ c. search needs) (λ c. search needs) returns (λ c. search needs) (λ c. search needs) loop-again returns-2)
+    tie.close (tie.spec
+    (λ c κs. search needs)
+    returns
+    first-overlap-requires
+    (λ c. search needs))

@@ -20,15 +20,12 @@ abbrev μ-loop : tie.MeasureT-loop
 loop-holds : tie.Need-loop-holds Inv-loop μ-loop
 loop-holds c = (record { within = omega arith; none-yet = pairs-skip _ _ }, omega arith)
 
-hits-requires : tie.Need-hits-requires Inv-loop μ-loop
-hits-requires c κs = record { task = omega arith; rises = omega arith; within = omega arith }
-
 returns : tie.Need-returns Inv-loop μ-loop
 unfolding pairBreach
-returns c = broken _ _ _ _ (c .before .before .before .loop .inv .0) (c .before .before .loop-test .taken) (pair-broken _ _ _ _ (c .before .before .before .loop .inv .1) (c .before .hits .ensures) (c .if1 .taken))
+returns c = broken _ _ _ _ (c .before .before .before .loop .inv .0) (c .before .before .loop-test .taken) (pair-broken _ _ _ _ (c .before .before .before .loop .inv .1) (c .before .pair-clash .ensures) (c .if1 .taken))
 
 loop-again : tie.Need-loop-again Inv-loop μ-loop
-loop-again c = (kept _ _ _ _ (c .before .before .before .loop .inv .0) (c .before .before .loop-test .taken) (pair-clear _ _ _ _ (c .before .before .before .loop .inv .1) (c .before .hits .ensures) (c .if1 .left)), omega arith)
+loop-again c = (kept _ _ _ _ (c .before .before .before .loop .inv .0) (c .before .before .loop-test .taken) (pair-clear _ _ _ _ (c .before .pair-clash .ensures) (c .if1 .left)), omega arith)
 
 returns-2 : tie.Need-returns-2 Inv-loop μ-loop
 unfolding pairBreach
@@ -37,5 +34,14 @@ returns-2 c = clear-done _ _ _ (c .before .loop .inv .0) (omega arith)
 pub pairs-of-spec : {M : Type 1} → statement M
 pairs-of-spec =
     tie.close
-    (tie.spec Inv-loop μ-loop (λ c. search needs) loop-holds (λ c. search needs) (λ c. search needs) (λ c. search needs) hits-requires returns
-    (λ c. search needs) (λ c. search needs) loop-again returns-2)
+    (tie.spec
+    Inv-loop
+    μ-loop
+    (λ c. search needs)
+    loop-holds
+    (λ c κs. search needs)
+    returns
+    (λ c. search needs)
+    (λ c. search needs)
+    loop-again
+    returns-2)

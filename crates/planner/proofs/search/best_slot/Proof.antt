@@ -1,43 +1,74 @@
 -- `planner::search::best_slot` meets its contract.
-use Prim.Native.Nat.{suc, _-_, _≤_}
-use mathlib.Core.Path.{_≡_}
+use Prim.Native.Nat.{_-_}
+use mathlib.Core.Logic.{⊎-elim}
+use mathlib.Core.Path.{sym, _∙_}
 use native.Mathlib.Omega.{arith}
-use Rattle.planner.specs.Search.{slotCopy, fits, bestOf}
-use Rattle.planner.proofs.BestLaws.{best-start, best-more, best-done, below-most, fits-node, asked-node}
+use Rattle.copies.specs.Table.{table}
+use Rattle.planner.proofs.BestLaws.{Best, first-best, best-passed, asked, best-next, best-found, start-at}
 use borrow.Author.Needs.{needs}
 use Rattle.planner.proofs.search.best_slot.Statement.{statement}
 use Rattle.planner.proofs.search.best_slot.Tie as tie
 
 abbrev Inv-loop : tie.InvT-loop
-Inv-loop nodes copies task search best₀ n₀ best n = (n ≤ nodes) × (slotCopy best ≡ bestOf (task .run) (suc (task .deadline)) (fits copies search) n)
+Inv-loop node start finish sets before last search task ready nodes best₀ n₀ best n = Best (table node start finish sets) before last search n best
 
 abbrev μ-loop : tie.MeasureT-loop
-μ-loop nodes copies task search best₀ n₀ best n = nodes - n
+μ-loop node start finish sets before last search task ready nodes best₀ n₀ best n = nodes - n
 
 loop-holds : tie.Need-loop-holds Inv-loop μ-loop
-loop-holds c = (omega arith, best-start _ _ _)
+loop-holds c = first-best _ _ _ _ _ (c .nowhere .ensures)
 
-element-copy-out-later : tie.Need-element-copy-out-later Inv-loop μ-loop
-element-copy-out-later c = omega (arith, c .before .before .pre .nodes-most)
+nowhere-requires : tie.Need-nowhere-requires Inv-loop μ-loop
+nowhere-requires c κs = c .before .before .pre .deadline
 
-finish-below-requires : tie.Need-finish-below-requires Inv-loop μ-loop
-finish-below-requires c κs = c .before .before .before .pre .deadline
+element-copy-out-run : tie.Need-element-copy-out-run Inv-loop μ-loop
+element-copy-out-run c = omega (arith, c .loop-test .taken, c .before .before .before .before .before .pre .nodes-most)
 
-element-copy-out-later-2 : tie.Need-element-copy-out-later-2 Inv-loop μ-loop
-element-copy-out-later-2 c = omega (arith, c .before .before .before .before .before .before .before .before .before .pre .nodes-most)
+may-run-requires : tie.Need-may-run-requires Inv-loop μ-loop
+may-run-requires c κs = omega (arith, c .before .loop-test .taken, c .before .before .before .before .before .before .pre .nodes-most)
 
-node-slot-requires : tie.Need-node-slot-requires Inv-loop μ-loop
-node-slot-requires c κs = asked-node _ _ _ _ (c .later .ensures) _ _ _ (c .before .before .before .before .before .before .before .before .before .before .before .pre) (c .before .before .before .before .before .before .before .before .before .loop-test .taken) (below-most _ _ _ _ _ _ (c .before .before .before .before .before .before .before .before .before .before .loop .inv .1) (c .before .before .before .before .before .before .before .finish-below .ensures))
+element-copy-out-t27 : tie.Need-element-copy-out-t27 Inv-loop μ-loop
+element-copy-out-t27 c = omega (arith, c .before .before .before .loop-test .taken, c .before .before .before .before .before .before .before .before .pre .nodes-most)
+
+first-free-requires : tie.Need-first-free-requires Inv-loop μ-loop
+first-free-requires c κs = asked _ _ _ _ (c .before .before .before .before .before .before .before .before .before .before .before .pre) _ _ (c .before .before .before .before .before .before .before .loop .inv) (c .before .before .before .before .before .before .loop-test .taken) (sym (c .before .before .before .before .may-run .ensures) ∙ c .before .before .before .if1 .taken) _ (start-at _ _ _ _ _ (c .before .ready-on .ensures) (c .later .ensures))
+
+sooner-requires : tie.Need-sooner-requires Inv-loop μ-loop
+sooner-requires c κs = (c .first-free .ensures .0, c .before .before .before .before .before .before .before .before .before .before .before .before .pre .run _ (c .before .before .before .before .before .before .before .loop-test .taken))
 
 loop-again : tie.Need-loop-again Inv-loop μ-loop
-loop-again c = (omega arith, best-more _ _ _ _ _ _ _ _ (c .before .before .before .before .before .before .before .before .before .before .before .before .loop .inv .1) (c .before .before .before .before .before .before .before .before .before .finish-below .ensures) (fits-node _ _ _ _ (c .before .before .later .ensures) _ _ _ (c .before .node-slot .ensures)) (c .newer .ensures))
+loop-again c =
+    ⊎-elim
+    (λ w. best-next _ _ _ _ (c .before .before .before .before .before .before .before .before .pre) _ _ (c .before .before .before .before .loop .inv) (c .before .before .before .loop-test .taken) (sym (c .before .may-run .ensures) ∙ w .0 .taken) _ (start-at _ _ _ _ _ (w .2 .ensures) (w .3 .ensures)) _ _ (w .4 .ensures .1) (w .6 ∙ w .5 .ensures))
+    (λ w. best-passed _ _ _ _ (c .before .before .before .before .before .before .before .before .pre) _ _ (c .before .before .before .before .loop .inv) (c .before .before .before .loop-test .taken) _ (sym (c .before .may-run .ensures) ∙ w .0 .left) (w .1))
+    (c .if1 .came)
 
 returns : tie.Need-returns Inv-loop μ-loop
-returns c = best-done _ _ _ _ _ _ (omega arith) (c .before .loop .inv .1)
+returns c = best-found _ _ _ _ _ _ _ (c .before .before .loop .inv) (omega arith) (c .slot-by .ensures)
 
 pub best-slot-spec : {M : Type 1} → statement M
 best-slot-spec =
     tie.close
-    (tie.spec Inv-loop μ-loop loop-holds (λ c. search needs) (λ c. search needs) element-copy-out-later finish-below-requires (λ c. search needs)
-    element-copy-out-later-2 (λ c κs. search needs) node-slot-requires (λ c κs. search needs) (λ c. search needs) (λ c. search needs) loop-again
+    (tie.spec
+    Inv-loop
+    μ-loop
+    nowhere-requires
+    loop-holds
+    (λ c. search needs)
+    element-copy-out-run
+    (λ c. search needs)
+    may-run-requires
+    (λ c. search needs)
+    element-copy-out-t27
+    (λ c. search needs)
+    (λ c. search needs)
+    (λ c κs. search needs)
+    (λ c κs. search needs)
+    first-free-requires
+    (λ c. search needs)
+    sooner-requires
+    (λ c. search needs)
+    (λ c. search needs)
+    loop-again
+    (λ c κs. search needs)
     returns)
