@@ -1,7 +1,7 @@
-# make test: everything that has to hold, the proofs last.
+# make test: everything that has to hold, the proofs and the wrong programs last.
 .PHONY: test fmt console compare samples bench
 
-test: fmt console
+test: fmt console samples compare test-tool
 	rt ci
 
 fmt:

@@ -5,7 +5,7 @@ set -u
 
 tool=$(realpath "$1")
 home=$PWD
-week=$home/tool/README-section.md # its console blocks are run as printed
+readme=$home/README.md # its console blocks are run as printed
 work=$(mktemp -d)
 trap 'rm -rf "$work"' EXIT
 cd "$work" || exit 2
@@ -491,8 +491,21 @@ week_tests() { # runs each command of a console block and compares what it print
         yes:'$ '*) week_step; command=${line#'$ '} want='' ;;
         yes:*) want+=$line$'\n' ;;
         esac
-    done <"$week"
+    done <"$readme"
     check 'the week has commands' test "$steps" -gt 10
+}
+
+demo_tests() { # what README shows of the demo is what it prints
+    good pack "$home/examples/oscilloscope.txt" -o demo.job
+    good plan demo.job -o demo.plan
+    {
+        "$tool" list demo.job
+        echo
+        "$tool" replay demo.job demo.plan --lose 1@16
+        echo
+        echo 'The charts are demo/plan.svg and demo/loss.svg.'
+    } >demo.out
+    check 'the demo as README prints it' cmp -s demo.out <(sed -n '/^```text$/,/^```$/{/^```/d;p}' "$readme")
 }
 
 steps=0
@@ -504,7 +517,7 @@ week_step() {
     check "as printed: $command" cmp -s out <(printf %s "$want")
 }
 
-for group in sample round_trip example job_fault plan_fault rule usage input output week; do
+for group in sample round_trip example job_fault plan_fault rule usage input output week demo; do
     "${group}_tests"
 done
 ASAN_OPTIONS+=:detect_leaks=0 # half the time; leaks were looked for up to here

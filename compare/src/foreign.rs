@@ -1,4 +1,4 @@
-//! The two consoles behind a C interface: the proved library and the benchmark's baseline.
+//! The three consoles behind a C interface: the proved library and the two baselines.
 
 use crate::console::Console;
 use crate::replay::Loss;
@@ -58,7 +58,8 @@ macro_rules! c_console {
 }
 
 c_console!(library, seqopchi_judge, seqopchi_plan, seqopchi_replay, seqopchi_replay_loss);
-c_console!(baseline, baseline_judge, baseline_plan, baseline_replay, baseline_replay_loss);
+c_console!(plain, plain_judge, plain_plan, plain_replay, plain_replay_loss);
+c_console!(tuned, tuned_judge, tuned_plan, tuned_replay, tuned_replay_loss);
 
 /// The library under test.
 pub const LIBRARY: Console = Console {
@@ -68,10 +69,10 @@ pub const LIBRARY: Console = Console {
     replay: library::replay,
 };
 
-/// Plain C, which the benchmark sets beside the library.
-pub const BASELINE: Console = Console {
-    name: "baseline",
-    judge: baseline::judge,
-    plan: baseline::plan,
-    replay: baseline::replay,
-};
+/// Plain C: document 01 as it reads. The benchmark measures the library by it.
+pub const PLAIN: Console =
+    Console { name: "plain", judge: plain::judge, plan: plain::plan, replay: plain::replay };
+
+/// C that is tuned for speed: how much a better method would gain.
+pub const TUNED: Console =
+    Console { name: "tuned", judge: tuned::judge, plan: tuned::plan, replay: tuned::replay };

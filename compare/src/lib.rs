@@ -13,5 +13,7 @@ pub mod replay;
 pub mod rounds;
 pub mod rules;
 pub mod samples;
+pub mod sized;
+pub mod stack;
 pub mod survival;
 pub mod trial;

@@ -1,4 +1,4 @@
-//! Times the exported functions beside plain C: same input, in turns, as a Markdown table.
+//! Times the exported functions beside C, plain and tuned: same input, in turns, a Markdown table.
 
 use std::hint::black_box;
 use std::process::ExitCode;
@@ -6,22 +6,25 @@ use std::time::Instant;
 use std::{env, fs};
 
 use compare::console::{plan_bytes, replay_bytes, Console};
-use compare::files::{write_job, Job, Link, Task, MAX_TIME};
-use compare::foreign::{BASELINE, LIBRARY};
-use compare::random::Random;
-use compare::replay::Loss;
+use compare::foreign::{LIBRARY, PLAIN, TUNED};
+use compare::sized::{planned, PlannedJob};
 
 const DEFAULT_ROUNDS: usize = 2001;
+
+const SIDES: [Console; 3] = [LIBRARY, PLAIN, TUNED];
+
+/// Who goes first, and who comes after whom, changes from round to round.
+const ORDERS: [[usize; 3]; 6] = [[0, 1, 2], [2, 1, 0], [1, 2, 0], [0, 2, 1], [2, 0, 1], [1, 0, 2]];
+
+/// The times of each side.
+type Times = [Vec<f64>; 3];
 
 /// A sample repeats its call for about this long, so that the clock's own time is no matter.
 const SAMPLE_NANOSECONDS: f64 = 20_000.0;
 
 struct Case {
     name: &'static str,
-    size: [usize; 3],
-    job: Vec<u8>,
-    plan: Vec<u8>,
-    loss: Loss,
+    sized: PlannedJob,
 }
 
 #[derive(Clone, Copy)]
@@ -57,7 +60,7 @@ fn main() -> ExitCode {
     for case in cases() {
         for (work, name) in WORKS {
             if !same_answers(&case, work) {
-                println!("{}, {name}: the two sides differ", case.name);
+                println!("{}, {name}: the sides differ", case.name);
                 return ExitCode::FAILURE;
             }
             print_row(&case, name, &time(&case, work, rounds));
@@ -68,11 +71,13 @@ fn main() -> ExitCode {
 
 fn print_head(rounds: usize) {
     println!("Microseconds for a call, reading included; least and median of {rounds} samples of");
-    println!("each side, taken in turns. A ratio below 1 means that the library is the faster.");
-    println!("Machine: {}. Plain C: {}, -O3.\n", processor(), env!("BASELINE_COMPILER"));
+    println!("each side, taken in turns. The last two columns divide the library's times by those");
+    println!("of plain and of tuned C, least / median: below 1 the library is the faster.");
+    println!("Machine: {}. C: {}, -O3.\n", processor(), env!("BASELINE_COMPILER"));
     print!("| job | nodes | tasks | links | function | library least | median ");
-    println!("| plain C least | median | ratio of least | of medians |");
-    println!("| --- | ---: | ---: | ---: | --- | ---: | ---: | ---: | ---: | ---: | ---: |");
+    println!("| plain least | median | tuned least | median | to plain | to tuned |");
+    print!("| --- | ---: | ---: | ---: | --- | ---: | ---: ");
+    println!("| ---: | ---: | ---: | ---: | ---: | ---: |");
 }
 
 fn processor() -> String {
@@ -81,17 +86,20 @@ fn processor() -> String {
     line.and_then(|line| line.split(": ").nth(1)).unwrap_or("an unnamed processor").to_string()
 }
 
-fn print_row(case: &Case, function: &str, sides: &[Vec<f64>; 2]) {
-    let [nodes, tasks, links] = case.size;
+fn print_row(case: &Case, function: &str, times: &Times) {
+    let PlannedJob { nodes, tasks, links, .. } = case.sized;
     let least = |side: &Vec<f64>| side[0] / 1000.0;
     let median = |side: &Vec<f64>| side[side.len() / 2] / 1000.0;
-    let [library, plain] = sides;
     print!("| {} | {nodes} | {tasks} | {links} | {function} ", case.name);
-    for side in sides {
+    for side in times {
         print!("| {:.3} | {:.3} ", least(side), median(side));
     }
-    let (by_least, by_median) = (least(library) / least(plain), median(library) / median(plain));
-    println!("| {by_least:.2} | {by_median:.2} |");
+    let [library, baselines @ ..] = times;
+    for side in baselines {
+        let ratios = (least(library) / least(side), median(library) / median(side));
+        print!("| {:.2} / {:.2} ", ratios.0, ratios.1);
+    }
+    println!("|");
 }
 
 fn cases() -> Vec<Case> {
@@ -106,79 +114,48 @@ fn cases() -> Vec<Case> {
     cases
 }
 
-/// The first random job of that size that is planned.
 fn case(name: &'static str, nodes: usize, tasks: usize, links: usize) -> Case {
-    let mut plan = vec![0; plan_bytes(tasks)];
-    let planned = (0..1000).find_map(|seed| {
-        let job = write_job(&sized_job(&mut Random::new(seed), nodes, tasks, links));
-        ((BASELINE.plan)(&job, &mut plan) == 0).then_some(job)
-    });
-    let job = planned.expect("such jobs are planned more often than not");
-    assert_eq!((BASELINE.judge)(&job, &plan), 0);
-    // The node of task 0's primary, lost while that runs: much has to be caught up with.
-    let node = u32::from(plan[8]);
-    Case { name, size: [nodes, tasks, links], job, plan, loss: Loss { node, moment: 3 } }
-}
-
-fn sized_job(random: &mut Random, nodes: usize, tasks: usize, links: usize) -> Job {
-    let mut task =
-        || Task { deadline: MAX_TIME, run: (0..nodes).map(|_| random.between(5, 20)).collect() };
-    let tasks_made = (0..tasks).map(|_| task()).collect();
-    Job {
-        detect: (0..nodes).map(|_| random.between(1, 5)).collect(),
-        tasks: tasks_made,
-        links: sized_links(random, tasks, links),
-    }
-}
-
-fn sized_links(random: &mut Random, tasks: usize, count: usize) -> Vec<Link> {
-    let pairs = (0..tasks).flat_map(|from| (from + 1..tasks).map(move |to| (from, to)));
-    let mut pairs: Vec<(usize, usize)> = pairs.collect();
-    while pairs.len() > count {
-        pairs.remove(random.below(pairs.len()));
-    }
-    let mut link = |(from, to)| Link { from, to, delay: random.between(0, 20) };
-    pairs.into_iter().map(&mut link).collect()
+    Case { name, sized: planned(nodes, tasks, links) }
 }
 
 fn call(console: &Console, case: &Case, work: Work, out: &mut [u8]) -> u64 {
-    let (job, plan) = (&case.job, &case.plan);
+    let PlannedJob { job, plan, loss, .. } = &case.sized;
     match work {
         Work::Reading => (console.judge)(job, &[]),
         Work::Judge => (console.judge)(job, plan),
         Work::Plan => (console.plan)(job, out),
         Work::Replay => (console.replay)(job, plan, None, out),
-        Work::ReplayLoss => (console.replay)(job, plan, Some(case.loss), out),
+        Work::ReplayLoss => (console.replay)(job, plan, Some(*loss), out),
     }
 }
 
 fn output(case: &Case) -> Vec<u8> {
-    let tasks = case.size[1];
+    let tasks = case.sized.tasks;
     vec![0; plan_bytes(tasks).max(replay_bytes(tasks))]
 }
 
-/// Both sides do the same work, or the times say nothing.
+/// All sides do the same work, or the times say nothing.
 fn same_answers(case: &Case, work: Work) -> bool {
-    let (mut ours, mut theirs) = (output(case), output(case));
-    let codes = (call(&LIBRARY, case, work, &mut ours), call(&BASELINE, case, work, &mut theirs));
     let expected = if matches!(work, Work::Reading) { 1 } else { 0 };
-    codes == (expected, expected) && ours == theirs
+    let outputs = SIDES.map(|console| {
+        let mut out = output(case);
+        (call(&console, case, work, &mut out) == expected).then_some(out)
+    });
+    outputs[0].is_some() && outputs.iter().all(|out| *out == outputs[0])
 }
 
 /// The nanoseconds of a call on each side, rising.
-fn time(case: &Case, work: Work, rounds: usize) -> [Vec<f64>; 2] {
-    let consoles = [LIBRARY, BASELINE];
+fn time(case: &Case, work: Work, rounds: usize) -> Times {
     let mut out = output(case);
-    let mut sides = [Vec::new(), Vec::new()];
-    let repeats = consoles.map(|console| repeats(&console, case, work, &mut out));
+    let mut times = SIDES.map(|_| Vec::new());
+    let repeats = SIDES.map(|console| repeats(&console, case, work, &mut out));
     for round in 0..rounds {
-        // Who goes first changes too.
-        for side in [round % 2, 1 - round % 2] {
-            sides[side].push(sample(&consoles[side], case, work, &mut out, repeats[side]));
+        for side in ORDERS[round % ORDERS.len()] {
+            times[side].push(sample(&SIDES[side], case, work, &mut out, repeats[side]));
         }
     }
-    sides.iter_mut().for_each(|side| side.sort_by(f64::total_cmp));
-    sides
+    times.iter_mut().for_each(|side| side.sort_by(f64::total_cmp));
+    times
 }
 
 fn sample(console: &Console, case: &Case, work: Work, out: &mut [u8], repeats: usize) -> f64 {

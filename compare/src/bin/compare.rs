@@ -5,7 +5,7 @@ use std::process::ExitCode;
 use std::{env, fs};
 
 use compare::console::{Console, SECOND};
-use compare::foreign::{BASELINE, LIBRARY};
+use compare::foreign::{LIBRARY, PLAIN, TUNED};
 use compare::random::Random;
 use compare::refusal::WORDS;
 use compare::rounds;
@@ -17,7 +17,7 @@ const LEAST_PASSED: u64 = 10_000;
 const LEAST_PASSED_DEEP: u64 = 1_000;
 
 const USAGE: &str = "usage: compare [--count JOBS] [--seed NUMBER] [--out FOLDER] [--pair FOLDER]
-               [--console library|baseline|second]
+               [--console library|plain|tuned|second]
   --count    random jobs to try
   --seed     where the random numbers start
   --out      where job.bin and plan.bin are written after a mismatch (default: here)
@@ -83,7 +83,7 @@ fn read_options() -> Option<Options> {
 }
 
 fn console_named(name: &str) -> Option<Console> {
-    [LIBRARY, BASELINE, SECOND].into_iter().find(|console| console.name == name)
+    [LIBRARY, PLAIN, TUNED, SECOND].into_iter().find(|console| console.name == name)
 }
 
 fn try_random(trial: &mut Trial, options: &Options) -> Result<(), Mismatch> {

@@ -1,24 +1,32 @@
-//! Runs the samples of document 01 through the C interface, and on the two other implementations.
+//! Runs the samples of document 01 on all implementations, and looks at the library's stack.
 
 use std::process::ExitCode;
 
 use compare::console::SECOND;
-use compare::foreign::{BASELINE, LIBRARY};
-use compare::samples::run;
+use compare::foreign::{LIBRARY, PLAIN, TUNED};
+use compare::{samples, stack};
 
 fn main() -> ExitCode {
-    let mut differs = false;
-    for console in [LIBRARY, SECOND, BASELINE] {
-        let (count, faults) = run(&console);
+    let mut good = true;
+    for console in [LIBRARY, SECOND, PLAIN, TUNED] {
+        let (count, faults) = samples::run(&console);
         println!("{}: {count} results looked at, {} differ", console.name, faults.len());
         for fault in &faults {
             println!("  {fault}");
         }
-        differs |= !faults.is_empty();
+        good &= faults.is_empty();
     }
-    if differs {
-        ExitCode::FAILURE
-    } else {
+    good &= stack_suffices();
+    if good {
         ExitCode::SUCCESS
+    } else {
+        ExitCode::FAILURE
     }
+}
+
+fn stack_suffices() -> bool {
+    let used = stack::used(&LIBRARY);
+    let listed = used.map(|(name, bytes)| format!("{name} {} KiB", bytes.div_ceil(1024)));
+    println!("stack: {} (limit {})", listed.join(", "), stack::LIMIT / 1024);
+    used.iter().all(|&(_, bytes)| bytes < stack::LIMIT)
 }

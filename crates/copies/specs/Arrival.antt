@@ -10,5 +10,5 @@ unfoldable pub inTimeOf : ℕ → ℕ → ℕ → ℕ → ℕ → Bool
 inTimeOf delay from finish to start = leb (finish + delayOf delay from to) start
 
 -- the sum is a number of 4 bytes
-abbrev pub Fits : ℕ → ℕ → Type 0
-Fits finish delay = finish + delay < 4_294_967_296
+abbrev pub SumFits : ℕ → ℕ → Type 0
+SumFits finish delay = finish + delay < 4_294_967_296

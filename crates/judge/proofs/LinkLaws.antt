@@ -26,7 +26,7 @@ use Rattle.rules.specs.Rules.{Row, strong, ruleD, ruleE}
 use Rattle.rules.specs.Judge.{firstLink}
 use Rattle.copies.specs.declared.table.Copies.{Copies}
 use Rattle.copies.specs.Sets.{has}
-use Rattle.copies.specs.Arrival.{Fits, inTimeOf}
+use Rattle.copies.specs.Arrival.{SumFits, inTimeOf}
 use Rattle.copies.specs.Table.{copyCount, entry, rowOf}
 use Rattle.copies.proofs.ArrivalLaws.{in-time-is}
 use Rattle.copies.proofs.ListMore.{replicated}
@@ -128,11 +128,11 @@ module _ (job : Job) (cs : Copies) (timed : Timed job cs) (k : ℕ) (low : k < l
     pub primary-to : q ≡ entry cs (2 * (link job k .to))
     pub backup-to : c ≡ entry cs (2 * (link job k .to) + 1)
 
-  pub primary-fits : (p : Copy) → p ≡ entry cs (2 * (link job k .from)) → Fits (p .finish) (link job k .delay)
+  pub primary-fits : (p : Copy) → p ≡ entry cs (2 * (link job k .from)) → SumFits (p .finish) (link job k .delay)
   primary-fits p e =
       omega (arith, ap (λ (c : Copy). c .finish) e, timed .ends (2 * (link job k .from)) (omega (arith, from-low)), timed .sound .delay-most k low)
 
-  pub backup-fits : (b : Copy) → b ≡ entry cs (2 * (link job k .from) + 1) → Fits (b .finish) (link job k .delay)
+  pub backup-fits : (b : Copy) → b ≡ entry cs (2 * (link job k .from) + 1) → SumFits (b .finish) (link job k .delay)
   backup-fits b e =
       omega (arith, ap (λ (c : Copy). c .finish) e, timed .ends (2 * (link job k .from) + 1) (omega (arith, from-low)), timed .sound .delay-most k low)
 

@@ -11,7 +11,7 @@ use rules::Copy;
 ghost use mathlib.Core.Path.{_≡_};
 ghost use Prim.Native.Nat.{_<_, _^_};
 ghost use mathlib.Core.Bool.{cond};
-ghost use Rattle.copies.specs.Arrival.{Fits, inTimeOf};
+ghost use Rattle.copies.specs.Arrival.{SumFits, inTimeOf};
 ghost use Rattle.judge.specs.Links.{Timed, LinksJudged};
 
 // For each task the tasks from which weak links lead to it, as bits; and the first refusal.
@@ -21,7 +21,7 @@ pub struct Walked {
 }
 
 fn in_time(delay: u32, c: Copy, d: Copy) -> bool
-    requires { ⌜ Fits (c .finish) delay ⌝ }
+    requires { ⌜ SumFits (c .finish) delay ⌝ }
     ensures { λ r. ⌜ r ≡ inTimeOf delay (c .node) (c .finish) (d .node) (d .start) ⌝ }
 {
     arrives(delay, c.node, c.finish, d.node, d.start)

@@ -7,3 +7,4 @@ pub mod BestLaws
 pub mod SentLaws
 pub mod KeepsLaws
 pub mod TaskLaws
+pub mod PlannedLaws

@@ -6,14 +6,14 @@ use reader::job::Job;
 use rules::Copy;
 ghost use mathlib.Core.Path.{_≡_};
 ghost use Prim.Native.Nat.{_<_};
-ghost use Rattle.copies.specs.Arrival.{Fits};
+ghost use Rattle.copies.specs.Arrival.{SumFits};
 ghost use Rattle.reader.specs.Limits.{maxNodes};
 ghost use Rattle.planner.specs.Senders.{Sending};
 ghost use Rattle.planner.specs.Faults.{carriedOf, Faulted};
 
 // What a link carries to a primary: the sender's fault set, where the link is weak.
 pub fn carried(delay: u32, from: u32, finish: u32, set: u32, primary: Copy) -> u32
-    requires { ⌜ Fits finish delay ⌝ }
+    requires { ⌜ SumFits finish delay ⌝ }
     ensures { λ r. ⌜ r ≡ carriedOf delay from finish set (primary .node) (primary .start) ⌝ }
 {
     if arrives(delay, from, finish, primary.node, primary.start) {

@@ -19,7 +19,7 @@ use Rattle.rules.specs.declared.Loss.{Loss}
 use Rattle.rules.specs.Rules.{Row, rows}
 use Rattle.rules.specs.Replay.{TaskRun, arrived, fed, runTask, replay}
 use Rattle.rules.proofs.FaultSetLaws.{runs-own}
-use Rattle.copies.specs.Arrival.{delayOf, Fits}
+use Rattle.copies.specs.Arrival.{delayOf, SumFits}
 use Rattle.replay.specs.declared.states.Pair.{Pair}
 use Rattle.replay.specs.declared.states.Outcome.{Outcome}
 use Rattle.replay.specs.declared.progress.Progress.{Progress}
@@ -107,7 +107,7 @@ module _ (job : Job) (plan : Plan) (loss : Loss) (both : Sound job × PlanSound 
       node-is : getD (r .node) i 0 ≡ sentFrom (replayed job plan loss i) (place plan i)
       node-is = filled-at _ maxTasks 0 (r .node) j i 0 (u .node-is) settled (omega (arith, u .within, sound .tasks-most))
 
-      pub sent-fits : Fits (getD (r .at) i 0) (link job k .delay)
+      pub sent-fits : SumFits (getD (r .at) i 0) (link job k .delay)
       unfolding outcome
       sent-fits =
           let most = sent-most (replayed job plan loss i) (omega (arith, finish-most job plan both i i-below (R i))) in

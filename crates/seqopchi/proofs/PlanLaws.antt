@@ -32,23 +32,13 @@ use Rattle.rules.specs.Planner.{planner}
 use Rattle.rules.proofs.PlannedPasses.{planned-sound}
 use Rattle.planner.specs.declared.Planned.{Planned}
 use Rattle.planner.specs.Tasks.{planned}
+use Rattle.planner.proofs.PlannedLaws.{attempt-refused, attempt-placed}
 use Rattle.seqopchi.specs.Files.{refusalOf, planOr, planFileFault, planFile}
 
 -- a refusal leaves the buffer
 refuses : (file out : List ℕ) {r : Refusal} → planFileFault file out ≡ some r → planFile file out ≡ record { answer = Refused r; buffer = out }
 unfolding planFile
 refuses file out e = rw e
-
--- what the planner's answer says of the attempt
-attempt-refused : (a : Attempt Plan) (p : Planned) {r : Refusal} → p ≡ planned a → p .answer ≡ Refused r → refusalOf a ≡ some r
-unfolding planned
-attempt-refused (refused s) p {r} e q = cc
-attempt-refused (placed plan) p {r} e q = never (cc)
-
-attempt-placed : (a : Attempt Plan) (p : Planned) → p ≡ planned a → p .answer ≡ Done → a ≡ placed (p .plan)
-unfolding planned
-attempt-placed (refused s) p e q = never (cc)
-attempt-placed (placed plan) p e q = ap placed (sym (ap (λ x. x .plan) e))
 
 module _ (file out : List ℕ) (read : JobRead) (is : read ≡ readJob file) where
   pub job-refused : {r : Refusal} → read .answer ≡ Refused r → planFile file out ≡ record { answer = read .answer; buffer = out }
@@ -81,7 +71,7 @@ module _ (file out : List ℕ) (read : JobRead) (is : read ≡ readJob file) whe
 
       pub no-place : {r : Refusal} → p .answer ≡ Refused r → planFile file out ≡ record { answer = p .answer; buffer = out }
       no-place {r} q =
-          refuses file out (to-planner ∙ attempt-refused (planner (read .job)) p ep q) ∙ ap (λ a. record { answer = a; buffer = out }) (sym q)
+          refuses file out (to-planner ∙ ap refusalOf (attempt-refused (planner (read .job)) p ep q)) ∙ ap (λ a. record { answer = a; buffer = out }) (sym q)
 
       module _ (q : p .answer ≡ Done) where
         found : planner (read .job) ≡ placed (p .plan)

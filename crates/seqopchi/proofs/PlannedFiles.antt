@@ -72,15 +72,16 @@ module _ (file out : List ℕ) (done : planFile file out .answer ≡ Done) where
   unfolding planFileFault
   found = placed-plan (planner job) (or-else-r _ _ (or-else-r _ _ no-fault))
 
+  pub planned-length : length (planBytes plan) ≡ planLength (tasks job)
+  planned-length = sym (sound-plan-length job plan sound (plan-sound job sound plan found))
+
   -- the output: the plan's 8 + 16 × N bytes, and the rest as it was
-  pub planned-buffer : planFile file out .buffer ≡ planBytes plan ++ drop (planLength (tasks job)) out
+  planned-buffer : planFile file out .buffer ≡ planBytes plan ++ drop (length (planBytes plan)) out
   unfolding planFile
-  planned-buffer = rw (no-fault, sound-plan-length job plan sound (plan-sound job sound plan found))
+  planned-buffer = rw no-fault
 
   written : take (planLength (tasks job)) (planFile file out .buffer) ≡ planBytes plan
-  written =
-      ap (take (planLength (tasks job))) planned-buffer
-      ∙ take-at (planBytes plan) _ (planLength (tasks job)) (sym (sound-plan-length job plan sound (plan-sound job sound plan found)))
+  written = ap (take (planLength (tasks job))) planned-buffer ∙ take-at (planBytes plan) _ (planLength (tasks job)) planned-length
 
   pub planned-file-passes : judgeFiles file (take (planLength (tasks job)) (planFile file out .buffer)) ≡ none
   unfolding judgeFiles

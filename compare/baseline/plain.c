@@ -1,0 +1,182 @@
+/* The plain baseline: document 01 as it reads, over flat arrays, with no tables beside them. */
+
+#include "common.h"
+
+uint64_t plain_judge(const uint8_t *job, size_t job_length, const uint8_t *plan, size_t plan_length)
+{
+    return judge(open_bytes(job, job_length), open_bytes(plan, plan_length));
+}
+
+/* The planner. */
+
+struct draft {
+    struct job job;
+    struct layout plan;
+    uint32_t faults[MAX_TASKS];
+};
+
+/* The copy of an earlier task that the new one may not overlap (rule G), NULL if there is none. */
+static const struct copy *clash(const struct draft *draft, uint32_t earlier,
+                                const struct copy *copy, uint32_t faults)
+{
+    const struct copy *primary = &draft->plan.primary[earlier];
+    const struct copy *backup = &draft->plan.backup[earlier];
+    if (overlap(copy, primary))
+        return primary;
+    if (overlap(copy, backup) && (faults & draft->faults[earlier]))
+        return backup;
+    return NULL;
+}
+
+/* The earliest place on its node, from where the copy stands. No start before the end of a clash
+   will do, so it leaps there. It may then meet a copy looked at before, hence the repetition. */
+static void avoid_clashes(const struct draft *draft, uint32_t task, uint32_t faults,
+                          struct copy *copy)
+{
+    uint32_t run = copy->finish - copy->start;
+    int moved;
+    do {
+        moved = 0;
+        for (uint32_t earlier = 0; earlier < task; earlier++) {
+            const struct copy *other = clash(draft, earlier, copy, faults);
+            if (other) {
+                copy->start = other->finish;
+                copy->finish = other->finish + run;
+                moved = 1;
+            }
+        }
+    } while (moved);
+}
+
+/* The place with the earliest finish, then the lowest node, among the nodes not barred. */
+static int find_place(const struct draft *draft, uint32_t task, const uint32_t *ready,
+                      uint32_t barred, uint32_t faults, struct copy *best)
+{
+    best->finish = UINT32_MAX;
+    for (uint32_t node = 0; node < draft->job.nodes; node++) {
+        uint32_t run = draft->job.run[task][node];
+        struct copy copy = { node, ready[node], ready[node] + run };
+        if (run == 0 || barred >> node & 1)
+            continue;
+        avoid_clashes(draft, task, faults, &copy);
+        if (copy.finish < best->finish)
+            *best = copy;
+    }
+    return best->finish <= draft->job.deadline[task];
+}
+
+/* Puts off each node's ready moment until the sender's result is there. */
+static void wait_for(const struct draft *draft, const struct copy *sender, uint32_t delay,
+                     uint32_t *ready)
+{
+    for (uint32_t node = 0; node < draft->job.nodes; node++)
+        ready[node] = later(ready[node], arrival(sender, delay, node));
+}
+
+static int place_primary(struct draft *draft, uint32_t task)
+{
+    uint32_t ready[MAX_NODES] = { 0 };
+    for (uint32_t i = 0; i < draft->job.links; i++) {
+        const struct link *link = &draft->job.link[i];
+        if (link->to == task)
+            wait_for(draft, &draft->plan.primary[link->from], link->delay, ready);
+    }
+    return find_place(draft, task, ready, 0, ALL_FAULTS, &draft->plan.primary[task]);
+}
+
+/* The fault set holds the primary's node, so rule F bars what rule A bars. */
+static int place_backup(struct draft *draft, uint32_t task)
+{
+    const struct copy *primary = &draft->plan.primary[task];
+    uint32_t ready[MAX_NODES];
+    uint32_t faults = UINT32_C(1) << primary->node;
+    for (uint32_t node = 0; node < draft->job.nodes; node++)
+        ready[node] = primary->finish + draft->job.detect[primary->node];
+    for (uint32_t i = 0; i < draft->job.links; i++) {
+        const struct link *link = &draft->job.link[i];
+        if (link->to == task) {
+            wait_for(draft, &draft->plan.primary[link->from], link->delay, ready);
+            wait_for(draft, &draft->plan.backup[link->from], link->delay, ready);
+            if (!in_time(&draft->plan.backup[link->from], link->delay, primary))
+                faults |= draft->faults[link->from];
+        }
+    }
+    draft->faults[task] = faults;
+    return find_place(draft, task, ready, faults, faults, &draft->plan.backup[task]);
+}
+
+uint64_t plain_plan(const uint8_t *job, size_t job_length, uint8_t *out, size_t out_length)
+{
+    struct draft draft;
+    uint64_t refused = start_plan(open_bytes(job, job_length), out_length, &draft.job);
+    if (refused)
+        return refused;
+    for (uint32_t task = 0; task < draft.job.tasks; task++) {
+        if (!place_primary(&draft, task))
+            return refuse(NO_PRIMARY, task, task);
+        if (!place_backup(&draft, task))
+            return refuse(NO_BACKUP, task, task);
+    }
+    put_plan(&draft.plan, draft.job.tasks, out);
+    return 0;
+}
+
+/* Replay. */
+
+/* Whether the results of all senders arrive by the receiver's start. */
+static int inputs_there(const struct run *run, const struct copy *const *finished, uint32_t task,
+                        const struct copy *receiver)
+{
+    for (uint32_t i = 0; i < run->job.links; i++) {
+        const struct link *link = &run->job.link[i];
+        if (link->to != task)
+            continue;
+        if (!finished[link->from] || !in_time(finished[link->from], link->delay, receiver))
+            return 0;
+    }
+    return 1;
+}
+
+/* Answers the task's finished copy, NULL if there is none. */
+static const struct copy *run_task(const struct run *run, const struct copy *const *finished,
+                                   uint32_t task, uint8_t *row)
+{
+    const struct copy *primary = &run->plan.primary[task], *backup = &run->plan.backup[task];
+    enum state first = NOT_STARTED, second = NOT_STARTED;
+    if (inputs_there(run, finished, task, primary))
+        first = run_copy(primary, &run->loss);
+    if (first != FINISHED && after_detection(&run->job, primary, backup)
+        && inputs_there(run, finished, task, backup))
+        second = run_copy(backup, &run->loss);
+    return put_outcome(run, task, first, second, row);
+}
+
+static uint64_t replay(struct file job, struct file plan, struct loss loss, uint8_t *out,
+                       size_t out_length)
+{
+    struct run run;
+    const struct copy *finished[MAX_TASKS];
+    uint64_t refused = start_run(job, plan, loss, out_length, &run);
+    if (refused)
+        return refused;
+    for (uint32_t task = 0; task < run.job.tasks; task++)
+        finished[task] = run_task(&run, finished, task, out + 12 * task);
+    return 0;
+}
+
+uint64_t plain_replay(const uint8_t *job, size_t job_length, const uint8_t *plan,
+                      size_t plan_length, uint8_t *out, size_t out_length)
+{
+    struct loss none = { 0, 0, 0 };
+    return replay(open_bytes(job, job_length), open_bytes(plan, plan_length), none, out,
+                  out_length);
+}
+
+uint64_t plain_replay_loss(const uint8_t *job, size_t job_length, const uint8_t *plan,
+                           size_t plan_length, uint32_t node, uint32_t moment, uint8_t *out,
+                           size_t out_length)
+{
+    struct loss loss = { 1, node, moment };
+    return replay(open_bytes(job, job_length), open_bytes(plan, plan_length), loss, out,
+                  out_length);
+}

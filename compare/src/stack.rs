@@ -1,0 +1,74 @@
+//! How much stack the library's functions use, on a job of the greatest size.
+
+use std::ffi::c_void;
+
+use crate::console::{plan_bytes, replay_bytes, Console};
+use crate::sized::planned;
+
+/// A call has to use less than this.
+pub const LIMIT: usize = 128 * 1024;
+
+extern "C" {
+    fn stack_used(call: extern "C" fn(*mut c_void), argument: *mut c_void) -> usize;
+}
+
+/// Each function with the bytes of stack that it uses.
+pub fn used(console: &Console) -> [(&'static str, usize); 4] {
+    let case = planned(16, 64, 512);
+    let (job, plan) = (&case.job, &case.plan);
+    let mut planned = vec![0; plan_bytes(case.tasks)];
+    let mut replayed = vec![0; replay_bytes(case.tasks)];
+    [
+        ("judge", measure(|| (console.judge)(job, plan))),
+        ("plan", measure(|| (console.plan)(job, &mut planned))),
+        ("replay", measure(|| (console.replay)(job, plan, None, &mut replayed))),
+        ("replay_loss", measure(|| (console.replay)(job, plan, Some(case.loss), &mut replayed))),
+    ]
+}
+
+/// The stack that a call uses, which has to succeed or the measure says little.
+fn measure(call: impl FnMut() -> u64) -> usize {
+    let (used, answer) = on_painted_stack(call);
+    assert_eq!(answer, 0, "the job is planned and its plan passes");
+    used
+}
+
+/// A call's answer, and the bytes of stack that it and the little code around it used.
+fn on_painted_stack<F: FnMut() -> u64>(call: F) -> (usize, u64) {
+    extern "C" fn make<F: FnMut() -> u64>(pointer: *mut c_void) {
+        // It points to the pair below, which lives until the thread is joined.
+        let (call, answer) = unsafe { &mut *pointer.cast::<(F, Option<u64>)>() };
+        *answer = Some(call());
+    }
+    let mut pair = (call, None);
+    let used = unsafe { stack_used(make::<F>, (&raw mut pair).cast()) };
+    (used, pair.1.expect("a thread could be started"))
+}
+
+#[cfg(test)]
+mod tests {
+    use std::hint::black_box;
+
+    use super::*;
+
+    fn use_array<const BYTES: usize>() -> u64 {
+        let array = black_box([1u8; BYTES]);
+        u64::from(array[BYTES / 2])
+    }
+
+    #[test]
+    fn the_measure_is_what_was_used() {
+        let (used, answer) = on_painted_stack(use_array::<50_000>);
+        assert_eq!(answer, 1);
+        // A build without optimisation keeps several copies of the array.
+        assert!((50_000..210_000).contains(&used), "{used}");
+        let (more, _) = on_painted_stack(use_array::<LIMIT>);
+        assert!(more >= LIMIT, "{more}");
+    }
+
+    #[test]
+    fn a_call_that_uses_little_is_far_from_the_limit() {
+        let (used, _) = on_painted_stack(|| 7);
+        assert!(used < 16_384, "{used}");
+    }
+}

@@ -1,0 +1,55 @@
+-- What a call leaves of the buffer: all of it where it refuses, and the bytes beyond the output where it succeeds.
+use Prim.Native.Nat.{ℕ, _*_}
+use mathlib.Core.Path.{_≡_, refl, _∙_, ap}
+use mathlib.Core.List.{List}
+use mathlib.Core.Option.{Option, none, some}
+use lib.ListN.{length, drop}
+use lib.Seq.{drop-at}
+use Rattle.reader.specs.declared.refusal.Refusal.{Refusal}
+use Rattle.reader.specs.Entries.{tasks}
+use Rattle.reader.specs.Refusals.{result}
+use Rattle.reader.specs.JobFile.{jobAt}
+use Rattle.reader.specs.PlanFile.{planLength}
+use Rattle.reader.proofs.RefusalLaws.{answered-done}
+use Rattle.reader.proofs.PackingLaws.{result-done}
+use Rattle.writer.specs.Write.{planBytes, writes}
+use Rattle.rules.specs.declared.Loss.{Loss}
+use Rattle.rules.specs.Planner.{planner}
+use Rattle.replay.specs.Outcomes.{replayBytes}
+use Rattle.replay.proofs.WriteLaws.{length-replay}
+use Rattle.seqopchi.specs.Files.{planIn, planOr, planFileFault, planFile, replayFault, replayFiles}
+use Rattle.seqopchi.proofs.PlannedFiles.{planned-length}
+
+-- of anything that is written
+refused-kept : (fault : Option Refusal) (s out : List ℕ) → (result (writes fault s out .answer) ≡ 0 → ⊥) → writes fault s out .buffer ≡ out
+refused-kept none s out h = absurd (h refl)
+refused-kept (some r) s out h = refl
+
+done-beyond : (fault : Option Refusal) (s out : List ℕ) (n : ℕ) → length s ≡ n → result (writes fault s out .answer) ≡ 0
+    → drop n (writes fault s out .buffer) ≡ drop n out
+done-beyond fault s out n e h =
+    ap (λ o. drop n (writes o s out .buffer)) (answered-done fault .0 (result-done _ h)) ∙ drop-at s _ n e ∙ ap (λ m. drop m out) e
+
+module _ (job out : List ℕ) where
+  abbrev plan : List ℕ
+  plan = planBytes (planOr (planner (jobAt job)))
+
+  pub plan-refused-keeps : (result (planFile job out .answer) ≡ 0 → ⊥) → planFile job out .buffer ≡ out
+  unfolding planFile
+  plan-refused-keeps = refused-kept (planFileFault job out) plan out
+
+  pub plan-keeps-beyond : result (planFile job out .answer) ≡ 0 → drop (planLength (tasks (jobAt job))) (planFile job out .buffer) ≡ drop (planLength (tasks (jobAt job))) out
+  unfolding planFile
+  plan-keeps-beyond h = done-beyond (planFileFault job out) plan out _ (planned-length job out (result-done _ h)) h
+
+module _ (job plan : List ℕ) (loss : Loss) (out : List ℕ) where
+  abbrev run : List ℕ
+  run = replayBytes (jobAt job) (planIn job plan) loss
+
+  pub replay-refused-keeps : (result (replayFiles job plan loss out .answer) ≡ 0 → ⊥) → replayFiles job plan loss out .buffer ≡ out
+  unfolding replayFiles
+  replay-refused-keeps = refused-kept (replayFault job plan loss out) run out
+
+  pub replay-keeps-beyond : result (replayFiles job plan loss out .answer) ≡ 0 → drop (12 * tasks (jobAt job)) (replayFiles job plan loss out .buffer) ≡ drop (12 * tasks (jobAt job)) out
+  unfolding replayFiles
+  replay-keeps-beyond h = done-beyond (replayFault job plan loss out) run out _ (length-replay (jobAt job) (planIn job plan) loss) h
