@@ -84,18 +84,11 @@ pub fn plan_job(job: Job) -> Planned
         let Slot::At(q) = b else {
             return unplanned(Refusal::NoBackup(j));
         };
-        put(&mut node, &mut start, &mut finish, &mut sets, 2 * j, p, ALL);
-        put(
-            &mut node,
-            &mut start,
-            &mut finish,
-            &mut sets,
-            2 * j + 1,
-            q,
-            set,
-        );
-        join(&mut before, &mut last, 2 * j, p.node);
-        join(&mut before, &mut last, 2 * j + 1, q.node);
+        let k = 2 * j;
+        put(&mut node, &mut start, &mut finish, &mut sets, k, p, ALL);
+        put(&mut node, &mut start, &mut finish, &mut sets, k + 1, q, set);
+        join(&mut before, &mut last, k, p.node);
+        join(&mut before, &mut last, k + 1, q.node);
         j += 1;
     }
     Planned {
