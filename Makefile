@@ -13,7 +13,7 @@ console: build/header-checked
 
 include tool.mk
 
-# The proved library beside a second implementation; the samples; times beside plain C. docs/PERFORMANCE.md keeps the last table.
+# The proved library beside a second implementation; the samples; times beside C and of the checks. docs/PERFORMANCE.md keeps the last table.
 COUNT ?= 5000
 SEED ?= 1
 CARGO := cd compare && SEQOPCHI_LIB=$(CURDIR)/build cargo run --release --offline --quiet --bin
@@ -26,3 +26,5 @@ samples: $(SEQOPCHI_LIB)
 
 bench: $(SEQOPCHI_LIB)
 	$(CARGO) bench
+	@printf '\nSeconds to prove each crate from nothing:\n'
+	@rt prove | sed -n 's/^rt: \([a-z]*\) proved (\([0-9]* s\))$$/\1 \2/p'

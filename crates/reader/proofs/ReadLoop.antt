@@ -24,14 +24,17 @@ module _ {A : Type 0} (counted : Option Refusal) (n : ℕ) (fault : ℕ → Opti
     pub clear : first i fault ≡ none
     pub stored : list ≡ fill i value empty
 
-  pub read-start : (k : ℕ) → counted ≡ none → k ≡ n → ReadTo k 0 empty
-  read-start k fine is = record {
+  pub read-begin : (k : ℕ) (list : List A) → counted ≡ none → k ≡ n → list ≡ empty → ReadTo k 0 list
+  read-begin k list fine is e = record {
     count-fine = fine;
     count-is = is;
     most = omega arith;
     clear = first-start fault;
-    stored = fill-none value empty;
+    stored = e ∙ fill-none value empty;
   }
+
+  pub read-start : (k : ℕ) → counted ≡ none → k ≡ n → ReadTo k 0 empty
+  read-start k fine is = read-begin k empty fine is refl
 
   module _ (k i : ℕ) (list : List A) (inv : ReadTo k i list) where
     pub read-more : (v : A) → i < k → fault i ≡ none → v ≡ value i → ReadTo k (i + 1) (set list i v)
@@ -48,10 +51,13 @@ module _ {A : Type 0} (counted : Option Refusal) (n : ℕ) (fault : ℕ → Opti
         let e : i < n = omega (arith, inv .count-is) in
         stopped (pass _ (inv .count-fine) ∙ first-found fault n i r e (inv .clear) bad) told
 
-    pub read-done : k ≤ i → Reads (counted or-else first n fault) Done ((k ≡ n) × (list ≡ fill k value empty))
-    read-done all =
+    pub read-end : {a : Answer} → a ≡ Done → k ≤ i → Reads (counted or-else first n fault) a ((k ≡ n) × (list ≡ fill k value empty))
+    read-end told all =
         let e : i ≡ k = omega (arith, inv .most) in
         finished
         (pass _ (inv .count-fine) ∙ ap (λ m. first m fault) (sym (e ∙ inv .count-is)) ∙ inv .clear)
-        refl
+        told
         (inv .count-is, inv .stored ∙ ap (λ m. fill m value empty) e)
+
+    pub read-done : k ≤ i → Reads (counted or-else first n fault) Done ((k ≡ n) × (list ≡ fill k value empty))
+    read-done = read-end refl

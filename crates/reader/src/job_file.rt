@@ -12,9 +12,9 @@ use crate::refusal::Refusal;
 ghost use mathlib.Core.Path.{_≡_};
 ghost use mathlib.Core.List.{List};
 ghost use Prim.Native.Nat.{ℕ, _+_, _*_, _≤_, _<_};
-ghost use lib.ListN.{drop};
+ghost use lib.ListN.{drop, replicate};
 ghost use Rattle.reader.specs.Limits.{maxNodes, minTasks, maxTasks, maxLinks};
-ghost use Rattle.reader.specs.Entries.{emptyJob};
+ghost use Rattle.reader.specs.Entries.{noLink, blankTask, emptyJob};
 ghost use Rattle.reader.specs.Number.{numberAt};
 ghost use Rattle.reader.specs.Reads.{Reads};
 ghost use Rattle.reader.specs.Sound.{below as belowOf};
@@ -151,17 +151,26 @@ fn read_task(part: &[u8], base: usize, at: usize, nodes: usize) -> OneTask
     }
 }
 
+fn no_tasks(answer: Answer) -> Tasks
+    ensures { λ r. ⌜ (r .answer ≡ answer) × (r .count ≡ 0) × (r .list ≡ replicate maxTasks blankTask) ⌝ }
+{
+    let none = Task {
+        deadline: 0,
+        run: [0; Job::MAX_NODES],
+    };
+    Tasks {
+        answer,
+        count: 0,
+        list: [none; Job::MAX_TASKS],
+    }
+}
+
 // The task section, with which the part begins.
 fn read_tasks(part: &[u8], base: usize, nodes: usize) -> Tasks
     requires { ⌜ (base ≤ 1024) × (nodes ≤ maxNodes) ⌝ }
     ensures { λ r. ⌜ r .count ≤ maxTasks ⌝ }
     ensures { λ r. ⌜ ((file : List ℕ) → drop base file ≡ now (part .entry) → Reads (tasksFault file base nodes) (r .answer) ((r .count ≡ numberAt file base) × (r .list ≡ tasksAt file base nodes (r .count)))) ⌝ }
 {
-    let none = Task {
-        deadline: 0,
-        run: [0; Job::MAX_NODES],
-    };
-    let mut list = [none; Job::MAX_TASKS];
     let c = field_of_part(
         part,
         base,
@@ -171,12 +180,9 @@ fn read_tasks(part: &[u8], base: usize, nodes: usize) -> Tasks
         Refusal::Count(base),
     );
     let Number::Is(n) = c else {
-        return Tasks {
-            answer: handed_on(c),
-            count: 0,
-            list,
-        };
+        return no_tasks(handed_on(c));
     };
+    let mut read = no_tasks(Answer::Done);
     let count = n as usize;
     let mut at = base + 4;
     let mut i: usize = 0;
@@ -184,22 +190,15 @@ fn read_tasks(part: &[u8], base: usize, nodes: usize) -> Tasks
         let t = read_task(part, base, at, nodes);
         let answer = t.answer;
         let Answer::Done = answer else {
-            return Tasks {
-                answer,
-                count: 0,
-                list,
-            };
+            return no_tasks(answer);
         };
         let task = t.task;
-        list[i] = task;
+        read.list[i] = task;
         at += 4 + 4 * nodes;
         i += 1;
     }
-    Tasks {
-        answer: Answer::Done,
-        count,
-        list,
-    }
+    read.count = count;
+    read
 }
 
 // Whether link l stands below link m: by from, then to.
@@ -260,49 +259,52 @@ fn read_link(file: &[u8], at: usize, tasks: usize, before: Link) -> OneLink
     }
 }
 
-// The link section at an offset.
-fn read_links(file: &[u8], at: usize, tasks: usize) -> Links
-    requires { ⌜ (at ≤ 8192) × (minTasks ≤ tasks) × (tasks ≤ maxTasks) ⌝ }
-    ensures { λ r. ⌜ r .count ≤ maxLinks ⌝ }
-    ensures { λ r. ⌜ Reads (linksFault (now (file .entry)) at tasks) (r .answer) ((r .count ≡ numberAt (now (file .entry)) at) × (r .list ≡ linksAt (now (file .entry)) at (r .count))) ⌝ }
+fn no_links(answer: Answer) -> Links
+    ensures { λ r. ⌜ (r .answer ≡ answer) × (r .count ≡ 0) × (r .list ≡ replicate maxLinks noLink) ⌝ }
 {
     let none = Link {
         from: 0,
         to: 0,
         delay: 0,
     };
-    let mut list = [none; Job::MAX_LINKS];
+    Links {
+        answer,
+        count: 0,
+        list: [none; Job::MAX_LINKS],
+    }
+}
+
+// The link section at an offset.
+fn read_links(file: &[u8], at: usize, tasks: usize) -> Links
+    requires { ⌜ (at ≤ 8192) × (minTasks ≤ tasks) × (tasks ≤ maxTasks) ⌝ }
+    ensures { λ r. ⌜ r .count ≤ maxLinks ⌝ }
+    ensures { λ r. ⌜ Reads (linksFault (now (file .entry)) at tasks) (r .answer) ((r .count ≡ numberAt (now (file .entry)) at) × (r .list ≡ linksAt (now (file .entry)) at (r .count))) ⌝ }
+{
     let c = field(file, at, 0, Job::MAX_LINKS, Refusal::Count(at));
     let Number::Is(m) = c else {
-        return Links {
-            answer: handed_on(c),
-            count: 0,
-            list,
-        };
+        return no_links(handed_on(c));
     };
+    let mut read = no_links(Answer::Done);
     let count = m as usize;
-    let mut before = none;
+    let mut before = Link {
+        from: 0,
+        to: 0,
+        delay: 0,
+    };
     let mut k: usize = 0;
     while k < count {
         let l = read_link(file, at + 4 + 12 * k, tasks, before);
         let answer = l.answer;
         let Answer::Done = answer else {
-            return Links {
-                answer,
-                count: 0,
-                list,
-            };
+            return no_links(answer);
         };
         let link = l.link;
-        list[k] = link;
+        read.list[k] = link;
         before = link;
         k += 1;
     }
-    Links {
-        answer: Answer::Done,
-        count,
-        list,
-    }
+    read.count = count;
+    read
 }
 
 fn no_job(answer: Answer) -> JobRead
