@@ -56,9 +56,9 @@ module _ (s : List ℕ) (at n : ℕ) (before : Link) (f : Number) (ef : f ≡ nu
             ∙ pass _ (is-none d _ _ ed qd)
             ∙ ap (λ v. unless v (LinkOrder at)) (sym (eb ∙ ap (below before) link-is))
 
-        pub link-order : {A : Type 0} → b ≡ false → Reads (linkFault s at n before) (Refused (LinkOrder at)) A
+        pub link-order : {A : Type 0} {a : Answer} → b ≡ false → a ≡ Refused (LinkOrder at) → Reads (linkFault s at n before) a A
         unfolding unless
-        link-order h = stopped (order ∙ ap (λ v. unless v (LinkOrder at)) h) refl
+        link-order h told = stopped (order ∙ ap (λ v. unless v (LinkOrder at)) h) told
 
         pub link-done : b ≡ true → Reads (linkFault s at n before) Done (_≡_ {A = Link} (record { from = x; to = y; delay = z }) (linkAt s at))
         unfolding unless

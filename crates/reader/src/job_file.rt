@@ -214,6 +214,17 @@ fn below(l: Link, m: Link) -> bool
     false
 }
 
+fn no_link(answer: Answer) -> OneLink
+    ensures { λ r. ⌜ r .answer ≡ answer ⌝ }
+{
+    let link = Link {
+        from: 0,
+        to: 0,
+        delay: 0,
+    };
+    OneLink { answer, link }
+}
+
 // One link at an offset, between tasks below `tasks`, behind the link `before`.
 fn read_link(file: &[u8], at: usize, tasks: usize, before: Link) -> OneLink
     requires { ⌜ (at ≤ 16384) × (minTasks ≤ tasks) × (tasks ≤ maxTasks) ⌝ }
@@ -221,30 +232,16 @@ fn read_link(file: &[u8], at: usize, tasks: usize, before: Link) -> OneLink
 {
     let f = field(file, at, 0, tasks - 1, Refusal::Value(at));
     let Number::Is(from) = f else {
-        return OneLink {
-            answer: handed_on(f),
-            link: before,
-        };
+        return no_link(handed_on(f));
     };
-    let t = field(
-        file,
-        at + 4,
-        (from as usize) + 1,
-        tasks - 1,
-        Refusal::Value(at + 4),
-    );
+    let least = (from as usize) + 1;
+    let t = field(file, at + 4, least, tasks - 1, Refusal::Value(at + 4));
     let Number::Is(to) = t else {
-        return OneLink {
-            answer: handed_on(t),
-            link: before,
-        };
+        return no_link(handed_on(t));
     };
     let d = field(file, at + 8, 0, Job::MAX_TIME, Refusal::Value(at + 8));
     let Number::Is(delay) = d else {
-        return OneLink {
-            answer: handed_on(d),
-            link: before,
-        };
+        return no_link(handed_on(d));
     };
     let link = Link { from, to, delay };
     if below(before, link) {
@@ -253,10 +250,7 @@ fn read_link(file: &[u8], at: usize, tasks: usize, before: Link) -> OneLink
             link,
         };
     }
-    OneLink {
-        answer: Answer::Refused(Refusal::LinkOrder(at)),
-        link: before,
-    }
+    no_link(Answer::Refused(Refusal::LinkOrder(at)))
 }
 
 fn no_links(answer: Answer) -> Links
