@@ -1,6 +1,5 @@
 -- Arrival on numbers is that of the rules.
-use Prim.Native.Nat.{ℕ, _≤_, _<_, max}
-use mathlib.Core.Bool.{true, false}
+use Prim.Native.Nat.{ℕ, _≤_, max}
 use mathlib.Core.Path.{_≡_, refl}
 use lib.Dec.{leb, eqb}
 use borrow.Author.Tests.{leb-true, le-leb}
@@ -14,10 +13,6 @@ use Rattle.rules.specs.Copies.{delay, inTime}
 use Rattle.copies.specs.Arrival.{delayOf, inTimeOf}
 
 module _ (job : Job) (l : Link) (c d : Copy) where
-  pub delay-is : delayOf (l .delay) (c .node) (d .node) ≡ delay job l c d
-  unfolding delayOf delay
-  delay-is = refl
-
   pub in-time-is : inTimeOf (l .delay) (c .node) (c .finish) (d .node) (d .start) ≡ inTime job l c d
   unfolding inTimeOf inTime delayOf delay
   in-time-is = refl

@@ -3,13 +3,11 @@ use Prim.Native.Nat.{ℕ, zero, suc, _+_, _*_, _/_, _≤_, _<_, max, min}
 use mathlib.Core.Bool.{Bool, true, false, not}
 use mathlib.Core.List.{List}
 use mathlib.Core.Path.{_≡_, refl, sym, _∙_, ap, ap₂, subst}
-use lib.Bits.{bitAnd}
 use lib.Dec.{ltb, eqb}
 use lib.ListN.{getD}
-use borrow.Author.Tests.{eqb-true, eq-eqb, ne-eqb, ltb-true, lt-ltb, le-ltb}
+use borrow.Author.Tests.{eqb-true, eq-eqb, ltb-true, lt-ltb}
 use native.Mathlib.Decide.{decLt}
 use native.Mathlib.Nat.{not-suc-le-zero}
-use native.Mathlib.Numerals.{add-one}
 use native.Mathlib.Omega.{arith}
 use Rattle.reader.specs.declared.job.Job.{Job}
 use Rattle.reader.specs.Limits.{maxNodes}
@@ -17,17 +15,16 @@ use Rattle.reader.specs.Entries.{nodes}
 use Rattle.reader.specs.Tests.{_and_}
 use Rattle.reader.specs.First.{every, any}
 use Rattle.reader.proofs.TestLaws.{split, clash, below-suc, and-i, and-l, and-r, not-i, not-e, not-true, same-test}
-use Rattle.reader.proofs.FirstLaws.{every-i, every-e, every-x, every-same}
+use Rattle.reader.proofs.FirstLaws.{every-i, every-e, every-same}
 use Rattle.rules.specs.declared.Copy.{Copy}
-use Rattle.rules.specs.Copies.{overlap, domains}
-use Rattle.rules.specs.Rules.{Row, shareFault, ruleGPrimary, ruleGBackup, ruleG}
+use Rattle.rules.specs.Copies.{overlap}
+use Rattle.rules.specs.Rules.{Row, shareFault, ruleGPrimary, ruleGBackup}
 use Rattle.copies.specs.declared.table.Copies.{Copies}
 use Rattle.copies.specs.Sets.{has, meets, everyNode}
 use Rattle.copies.specs.Table.{nodeAt, entry, setAt, rowOf, Held}
 use Rattle.copies.specs.Chain.{lastOf, Chain}
 use Rattle.copies.specs.Clash.{clashes, free, boundOf, latest}
 use Rattle.reader.proofs.TestLaws.{and-yes, and-no}
-use Rattle.reader.proofs.FirstLaws.{every-both}
 use Rattle.copies.proofs.ChainLaws.{last-most, last-gap, chain-before, chain-down, chain-next}
 use Rattle.copies.proofs.SetLaws.{meets-i, meets-any, has-every}
 
@@ -213,36 +210,3 @@ module _ (job : Job) (cs : Copies) (j : ℕ) (few : nodes job ≤ maxNodes) (hel
         ap₂ (λ x y. not x and not y)
         (meets-only m (2 * i) (omega arith) (rw (held .primary-set i p) (meets-i everyNode m own (has-every own (omega arith)) here)) ∙ ap (overlap (entry cs (2 * i))) (sym b))
         (clashes-is m c (entry cs (2 * i + 1)) (setAt cs (2 * i + 1)) (held .lasts (2 * i + 1) (omega arith)) lasts ∙ ap₂ (λ x y. x and y) (ap (overlap (entry cs (2 * i + 1))) (sym b)) (share-is i p))
-
--- both copies of task j: nothing before them clashes exactly if G holds between every earlier task and j
-module _ (job : Job) (cs : Copies) (j : ℕ) (few : nodes job ≤ maxNodes) (held : Held job (j + 1) cs) where
-  earlier : Held job j cs
-  earlier =
-      record {
-        node = λ k p. held .node k (omega arith);
-        lasts = λ k p. held .lasts k (omega arith);
-        ends = λ k p. held .ends k (omega arith);
-        primary-set = λ i p. held .primary-set i (omega arith);
-        own = λ i p. held .own i (omega arith);
-        within = λ i q p. held .within i q (omega arith);
-      }
-
-  -- the hot loop's answer for entry k, among the entries of the tasks before j
-  abbrev pub endOf : ℕ → ℕ
-  endOf k = latest cs (setAt cs k) (entry cs k) (2 * j)
-
-  pub pairs-free : (eqb (endOf (2 * j)) 0 and eqb (endOf (2 * j + 1)) 0) ≡ every j (λ i. ruleG job (rowOf cs i) (rowOf cs j))
-  unfolding rowOf ruleG
-  pairs-free = ap₂ (λ x y. x and y) primary backup ∙ every-both j _ _
-    where
-      primary : eqb (endOf (2 * j)) 0 ≡ every j (λ i. ruleGPrimary (rowOf cs i) (rowOf cs j .primary))
-      primary =
-          ap (λ m. eqb (latest cs m (entry cs (2 * j)) (2 * j)) 0) (held .primary-set j (omega arith))
-          ∙ latest-free cs everyNode (entry cs (2 * j)) (2 * j)
-          ∙ free-primary job cs j few earlier (entry cs (2 * j)) (held .lasts (2 * j) (omega arith))
-
-      backup : eqb (endOf (2 * j + 1)) 0 ≡ every j (λ i. ruleGBackup job (rowOf cs i) (rowOf cs j))
-      backup =
-          latest-free cs (setAt cs (2 * j + 1)) (entry cs (2 * j + 1)) (2 * j)
-          ∙ free-backup job cs j few earlier (entry cs (2 * j + 1)) (held .lasts (2 * j + 1) (omega arith)) (setAt cs (2 * j + 1))
-          (entry cs (2 * j) .node) (rowOf cs j) refl refl (held .node (2 * j) (omega arith)) (held .own j (omega arith))

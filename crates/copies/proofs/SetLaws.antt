@@ -1,6 +1,6 @@
 -- Laws of sets as bits, for every place: none, one, all, union, and common members.
 use Prim.Native.Nat.{ℕ, zero, suc, _+_, _-_, _*_, _/_, _%_, _^_, _<_, suc-le-suc, min, max}
-use mathlib.Core.Bool.{Bool, true, false, not}
+use mathlib.Core.Bool.{true, false, not}
 use mathlib.Core.Path.{_≡_, refl, sym, ap, ap₂, _∙_, subst}
 use lib.Bits.{bitAnd, bitOr, and-shr, or-shr, and-step, or-step}
 use lib.Arith.{digits-mod, bin-ind}

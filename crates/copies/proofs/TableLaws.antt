@@ -1,7 +1,7 @@
 -- Laws of the table: what is stored, and the rows of the empty table.
 use Prim.Native.Nat.{ℕ, _+_, _*_, _<_}
-use mathlib.Core.Bool.{Bool, false}
-use mathlib.Core.Path.{_≡_, refl, sym, _∙_, ap, fun-ext}
+use mathlib.Core.Bool.{Bool}
+use mathlib.Core.Path.{_≡_, _∙_, ap, fun-ext}
 use lib.ListN.{getD, set, length-set}
 use lib.Seq.{getD-set-same, getD-set-other}
 use native.Mathlib.Omega.{arith}
@@ -9,7 +9,7 @@ use Rattle.rules.specs.declared.Copy.{Copy}
 use Rattle.rules.specs.Rules.{Row, blankRow}
 use Rattle.copies.specs.declared.table.Copies.{Copies}
 use Rattle.copies.specs.Sets.{has}
-use Rattle.copies.specs.Table.{copyCount, entry, setAt, rowOf, table, emptyCopies, Whole, Stored}
+use Rattle.copies.specs.Table.{copyCount, rowOf, table, emptyCopies, Whole, Stored}
 use Rattle.copies.proofs.ListMore.{replicated}
 use Rattle.copies.proofs.SetLaws.{has-none}
 

@@ -1,7 +1,7 @@
 // Sets of nodes and of tasks: the bits of a number.
 ghost use mathlib.Core.Path.{_≡_};
 ghost use Prim.Native.Nat.{_^_, _<_};
-ghost use Rattle.copies.specs.Sets.{has, meets};
+ghost use Rattle.copies.specs.Sets.{has};
 
 // The set of every node.
 pub const ALL: u32 = 4294967295;
@@ -25,18 +25,4 @@ pub fn holds_node(set: u32, n: u32) -> bool
     ensures { λ r. ⌜ r ≡ has set n ⌝ }
 {
     (set >> n) % 2 == 1
-}
-
-pub fn holds_task(set: u64, i: usize) -> bool
-    requires { ⌜ i < 64 ⌝ }
-    ensures { λ r. ⌜ r ≡ has set i ⌝ }
-{
-    (set >> i) % 2 == 1
-}
-
-// Whether two sets of nodes have a common member.
-pub fn meet(a: u32, b: u32) -> bool
-    ensures { λ r. ⌜ r ≡ meets a b ⌝ }
-{
-    (a & b) != 0
 }

@@ -1,6 +1,6 @@
 -- Laws of the pass over the links: one weak link more, and the rules of links at each.
 use Prim.Native.Nat.{ℕ, _+_, _*_, _^_, _≤_, _<_}
-use mathlib.Core.Bool.{Bool, true, false, not, cond}
+use mathlib.Core.Bool.{Bool, true, false, cond}
 use mathlib.Core.List.{List}
 use mathlib.Core.Path.{_≡_, refl, sym, _∙_, ap, ap₂, subst}
 use native.Mathlib.Omega.{arith}
@@ -27,7 +27,7 @@ use Rattle.rules.specs.Judge.{firstLink}
 use Rattle.copies.specs.declared.table.Copies.{Copies}
 use Rattle.copies.specs.Sets.{has}
 use Rattle.copies.specs.Arrival.{SumFits, inTimeOf}
-use Rattle.copies.specs.Table.{copyCount, entry, rowOf}
+use Rattle.copies.specs.Table.{entry, rowOf}
 use Rattle.copies.proofs.ArrivalLaws.{in-time-is}
 use Rattle.copies.proofs.ListMore.{replicated}
 use Rattle.copies.proofs.SetLaws.{has-union, has-one, has-none}

@@ -1,17 +1,13 @@
 -- The judge is its three parts, and each part reads no more of a table than it names.
 use Prim.Native.Nat.{ℕ, _<_}
-use mathlib.Core.Bool.{Bool}
-use mathlib.Core.Path.{_≡_, sym, _∙_, ap₂}
+use mathlib.Core.Path.{_≡_, ap₂}
 use native.Mathlib.Omega.{arith}
 use Rattle.reader.specs.declared.job.Job.{Job}
-use Rattle.reader.specs.declared.job.Link.{Link}
-use Rattle.reader.specs.declared.refusal.Refusal.{Refusal}
 use Rattle.reader.specs.First.{_or-else_}
 use Rattle.reader.specs.Entries.{tasks, links, link}
 use Rattle.reader.specs.Sound.{Sound}
 use Rattle.reader.proofs.FirstLaws.{first-same}
-use Rattle.rules.specs.declared.Copy.{Copy}
-use Rattle.rules.specs.Rules.{Row, ruleD, ruleE, ruleF, ruleG}
+use Rattle.rules.specs.Rules.{Row, ruleD, ruleE}
 use Rattle.rules.specs.Judge.{firstTask, firstLink, firstPair, breach}
 use Rattle.reader.proofs.FirstLaws.{or-else-join}
 use Rattle.judge.specs.Parts.{byTasks, byLinks, byFaults}

@@ -1,6 +1,6 @@
 -- From the passes to the judge: the table's rows are the plan's, and its answers the judge's.
 use Prim.Native.Nat.{ℕ, zero, suc, _+_, _*_, _/_, _≤_, _<_}
-use mathlib.Core.Bool.{Bool, true, false}
+use mathlib.Core.Bool.{true, false}
 use mathlib.Core.List.{List}
 use mathlib.Core.Option.{none}
 use mathlib.Core.Path.{_≡_, refl, sym, _∙_, ap, ap₂, subst, fun-ext}
@@ -16,15 +16,15 @@ use Rattle.reader.specs.declared.refusal.Refusal.{Refusal}
 use Rattle.reader.specs.declared.refusal.Answer.{Answer}
 use Rattle.reader.specs.declared.refusal.Answer.the-variants.{Done, Refused}
 use Rattle.reader.specs.First.{_or-else_, any}
-use Rattle.reader.specs.Limits.{maxNodes, maxTasks, maxStart, maxTime}
-use Rattle.reader.specs.Entries.{nodes, tasks, links, link, run, place}
+use Rattle.reader.specs.Limits.{maxTasks, maxStart, maxTime}
+use Rattle.reader.specs.Entries.{nodes, tasks, links, link, run}
 use Rattle.reader.specs.Refusals.{answered}
 use Rattle.reader.specs.Sound.{Sound, PlanSound}
 use Rattle.reader.proofs.TestLaws.{and-i, and-l, and-r, or-l, or-r, or-e, not-e, not-i, same-test}
 use Rattle.reader.proofs.FirstLaws.{any-i, any-e}
 use Rattle.rules.specs.declared.Copy.{Copy}
 use Rattle.rules.specs.Copies.{copy, inTime, domain}
-use Rattle.rules.specs.Rules.{Row, strong, faultSet, rows, ruleF}
+use Rattle.rules.specs.Rules.{Row, strong, rows, ruleF}
 use Rattle.rules.specs.Judge.{firstTask, judge}
 use Rattle.rules.proofs.FaultSetLaws.{faults-here, faults-over, faults-e, rows-faults, row-primary, row-backup}
 use Rattle.copies.specs.declared.table.Copies.{Copies}

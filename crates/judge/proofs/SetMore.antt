@@ -8,10 +8,10 @@ use native.Mathlib.Omega.{arith}
 use lib.Bits.{bitOr}
 use lib.Count.{trailingZeros, under}
 use lib.Dec.{eqb}
-use lib.Pow.{shr-shr, pow-pos}
-use borrow.Author.Tests.{eqb-true, eqb-false, eq-eqb, ne-eqb}
+use lib.Pow.{shr-shr}
+use borrow.Author.Tests.{eqb-true, eq-eqb, ne-eqb}
 use Rattle.reader.specs.Tests.{_and_, _or_}
-use Rattle.reader.proofs.TestLaws.{split, clash, or-l, or-r, and-l, and-r, not-true, same-test}
+use Rattle.reader.proofs.TestLaws.{clash, or-l, or-r, and-l, and-r, not-true, same-test}
 use Rattle.copies.specs.Sets.{has}
 use Rattle.reader.proofs.TestLaws.{and-yes, and-no}
 use Rattle.copies.proofs.SetLaws.{has-union, has-none, empty-set, shifted}

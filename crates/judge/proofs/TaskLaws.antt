@@ -1,31 +1,29 @@
 -- Laws of the pass over the tasks: two entries more, and the rules of tasks at each.
 use Prim.Native.Nat.{ℕ, _+_, _*_, _≤_, _<_}
-use mathlib.Core.Bool.{Bool, not}
+use mathlib.Core.Bool.{not}
 use mathlib.Core.List.{List}
-use mathlib.Core.Path.{_≡_, refl, sym, _∙_, ap, ap₂, subst}
+use mathlib.Core.Path.{_≡_, sym, _∙_, ap, ap₂, subst}
 use native.Mathlib.Nat.{not-suc-le-zero}
 use native.Mathlib.Omega.{arith}
 use lib.Dec.{eqb, leb}
 use lib.ListN.{getD, set, length, replicate, length-set, length-replicate}
 use lib.Seq.{getD-set-same, getD-set-other}
 use Rattle.reader.specs.declared.job.Job.{Job}
-use Rattle.reader.specs.declared.job.Task.{Task}
 use Rattle.reader.specs.declared.plan.Plan.{Plan}
 use Rattle.reader.specs.declared.refusal.Refusal.the-variants.{SameNode, Early, Late}
 use Rattle.reader.specs.declared.refusal.Answer.{Answer}
 use Rattle.reader.specs.First.{_or-else_}
-use Rattle.reader.specs.Limits.{maxNodes, maxTime, maxStart}
 use Rattle.reader.specs.Entries.{nodes, tasks, detect, deadline, task, place}
 use Rattle.reader.specs.Refusals.{answered}
 use Rattle.reader.specs.Sound.{Sound, PlanSound}
 use Rattle.reader.proofs.TestLaws.{below-suc}
 use Rattle.rules.specs.declared.Copy.{Copy}
 use Rattle.rules.specs.Copies.{copy, domain}
-use Rattle.rules.specs.Rules.{Row, rows, ruleA, ruleB, ruleC}
+use Rattle.rules.specs.Rules.{rows, ruleA, ruleB, ruleC}
 use Rattle.rules.specs.Judge.{firstTask}
 use Rattle.rules.proofs.FaultSetLaws.{row-primary, row-backup}
 use Rattle.copies.specs.declared.table.Copies.{Copies}
-use Rattle.copies.specs.Table.{copyCount, table, entry, emptyCopies}
+use Rattle.copies.specs.Table.{copyCount, table, emptyCopies}
 use Rattle.copies.proofs.TableLaws.{same-copy}
 use Rattle.judge.specs.Notes.{nowhere, firstBroken, notedOf, seen}
 use Rattle.judge.specs.Parts.{byTasks}

@@ -1,7 +1,7 @@
 -- The plan is read off the table task by task.
 use Prim.Native.Nat.{ℕ, _+_}
 use mathlib.Core.List.{List}
-use mathlib.Core.Path.{_≡_, refl, _∙_, ap}
+use mathlib.Core.Path.{_≡_}
 use lib.ListN.{set}
 use native.Mathlib.Numerals.{add-one}
 use Rattle.reader.specs.declared.plan.Plan.{Plan}

@@ -13,7 +13,7 @@ use Rattle.reader.specs.Sound.{Sound}
 use Rattle.reader.proofs.TestLaws.{not-i}
 use Rattle.reader.proofs.FirstLaws.{every-rest}
 use Rattle.copies.specs.Chain.{Chain}
-use Rattle.copies.proofs.ChainLaws.{last-most, last-gap, linked-down, chain-of, chain-within}
+use Rattle.copies.proofs.ChainLaws.{last-gap, linked-down, chain-of, chain-within}
 use Rattle.planner.specs.Senders.{receiver, Sent, Sending}
 
 module _ (job : Job) (sound : Sound job) (last before from delay : List ℕ) (sent : Sent job (links job) last before from delay) (j : ℕ) (few : j < maxTasks) where

@@ -2,7 +2,7 @@
 use Prim.Native.Nat.{ℕ, zero, suc, _+_, _*_, _≤_, _<_}
 use mathlib.Core.Bool.{Bool, true}
 use mathlib.Core.List.{List}
-use mathlib.Core.Option.{none, some}
+use mathlib.Core.Option.{some}
 use mathlib.Core.Path.{_≡_, refl, sym, _∙_, ap, ap₂, subst, fun-ext}
 use lib.Dec.{eqb}
 use lib.ListN.{getD, length, replicate}
@@ -22,7 +22,7 @@ use Rattle.reader.proofs.TestLaws.{split, below-suc}
 use Rattle.rules.specs.declared.Copy.{Copy}
 use Rattle.rules.specs.Tables.{put}
 use Rattle.rules.specs.Copies.{copy}
-use Rattle.rules.specs.Rules.{Row, row}
+use Rattle.rules.specs.Rules.{row}
 use Rattle.rules.specs.Attempts.{refused, placed, _>>=_, _or-refuse_}
 use Rattle.rules.specs.Planner.{earliest, primaryKeeps, backupKeeps, placeOf, placeTask, placeTasks, planOf, planner}
 use Rattle.rules.proofs.TableLaws.{put-same, put-other}

@@ -1,7 +1,7 @@
 -- The laws by which every chain of `let .. else` is proved: each step passes, or stops with its refusal.
 use Prim.Native.Nat.{ℕ}
 use mathlib.Core.List.{List}
-use mathlib.Core.Path.{_≡_, refl, sym, ap, _∙_, subst}
+use mathlib.Core.Path.{_≡_, sym, ap, _∙_, subst}
 use mathlib.Core.Option.{Option, none, some}
 use Rattle.reader.specs.declared.refusal.Refusal.{Refusal}
 use Rattle.reader.specs.declared.refusal.Answer.{Answer}
@@ -9,7 +9,7 @@ use Rattle.reader.specs.declared.refusal.Answer.the-variants.{Done, Refu
 use Rattle.reader.specs.declared.number.Number.{Number}
 use Rattle.reader.specs.declared.number.Number.the-variants.{Fault}
 use Rattle.reader.specs.First.{_or-else_}
-use Rattle.reader.specs.Number.{numbered, faultOf}
+use Rattle.reader.specs.Number.{faultOf}
 use Rattle.reader.specs.Refusals.{answered}
 use Rattle.reader.specs.Reads.{Reads}
 use Rattle.reader.specs.declared.job.Task.{Task}

@@ -142,11 +142,6 @@ module _ {A : Type 0} (f : ℕ → Option A) where
   pub first-found : (n j : ℕ) (a : A) → j < n → first j f ≡ none → f j ≡ some a → first n f ≡ some a
   first-found n j a p h e = some-first n f a (record { at = j; below = p; is = e; least = none-first j f h })
 
--- for a search that leaps: nothing up to a, and nothing from a up to b
-pub first-leap : {A : Type 0} (f : ℕ → Option A) (a b : ℕ) → first a f ≡ none → ((i : ℕ) → a ≤ i → i < b → f i ≡ none) → first b f ≡ none
-first-leap f a b h k =
-    first-none b f λ i p. elim (decLt i a) [ yes q ↦ none-first a f h i q | no q ↦ k i (omega arith) p ]
-
 -- functions that agree at each place
 pub first-same : {A : Type 0} (n : ℕ) (f g : ℕ → Option A) → ((i : ℕ) → i < n → f i ≡ g i) → first n f ≡ first n g
 unfolding first

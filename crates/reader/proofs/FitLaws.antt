@@ -6,7 +6,6 @@ use mathlib.Core.Path.{_≡_, refl}
 use mathlib.Core.Bool.{Bool, true, false}
 use mathlib.Core.List.{List}
 use mathlib.Core.Option.{Option, none, some}
-use lib.ListN.{length}
 use Rattle.reader.specs.declared.job.Link.{Link}
 use Rattle.reader.specs.declared.job.Job.{Job}
 use Rattle.reader.specs.declared.refusal.Refusal.{Refusal}
@@ -17,7 +16,7 @@ use Rattle.reader.specs.Entries.{tasks}
 use Rattle.reader.specs.Sound.{Sound}
 use Rattle.reader.specs.Refusals.{told, tell, Fits}
 use Rattle.reader.specs.Number.{numberAt, fieldFault, versionFault, countFault, valueFault}
-use Rattle.reader.specs.JobFile.{nodeSection, taskSection, linkSection, jobLength, nodeCount, taskCount, linkCount, nodesFault, runFault, taskFault, tasksFault, linkFault, linksFault, tailFault, jobFault, jobAt}
+use Rattle.reader.specs.JobFile.{nodeSection, taskSection, linkSection, jobLength, nodeCount, taskCount, linkCount, nodesFault, runFault, taskFault, tasksFault, linkFault, linksFault, tailFault, jobFault}
 use Rattle.reader.specs.PlanFile.{nodeFault, placeFault, placesFault, planLength, planFault}
 use Rattle.reader.proofs.TestLaws.{never}
 use Rattle.reader.proofs.FieldLaws.{field-good}

@@ -1,9 +1,7 @@
 -- Laws of reading one place: a node that can run the task, and the four numbers in turn.
-use Prim.Native.Nat.{ℕ, _+_, _-_, _≤_, _<_}
-use mathlib.Core.Path.{_≡_, refl, sym, ap, _∙_}
-use mathlib.Core.Bool.{true, false}
+use Prim.Native.Nat.{ℕ, _+_, _-_}
+use mathlib.Core.Path.{_≡_, sym, ap, _∙_}
 use mathlib.Core.List.{List}
-use mathlib.Core.Option.{none, some}
 use lib.Dec.{ltb}
 use lib.ListN.{getD}
 use borrow.Author.Tests.{lt-ltb, le-ltb}
@@ -13,7 +11,7 @@ use Rattle.reader.specs.declared.refusal.Refusal.{Refusal}
 use Rattle.reader.specs.declared.refusal.Refusal.the-variants.{Unable}
 use Rattle.reader.specs.declared.number.Number.{Number}
 use Rattle.reader.specs.declared.number.Number.the-variants.{Is, Fault}
-use Rattle.reader.specs.First.{_or-else_, unless}
+use Rattle.reader.specs.First.{unless}
 use Rattle.reader.specs.Number.{numberAt, valueFault, numbered}
 use Rattle.reader.specs.PlanFile.{nodeFault, placeAt}
 use Rattle.reader.proofs.NumberLaws.{is-none, is-value, is-fault}

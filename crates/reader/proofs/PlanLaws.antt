@@ -1,8 +1,8 @@
 -- Laws of reading a whole plan file: the version, the count and the places, each behind those that passed.
 use Prim.Native.Nat.{ℕ, _≤_, _<_}
-use mathlib.Core.Path.{_≡_, refl, sym, ap, ap₂, _∙_}
+use mathlib.Core.Path.{_≡_, ap, ap₂, _∙_}
 use mathlib.Core.List.{List}
-use mathlib.Core.Option.{Option, none, some}
+use mathlib.Core.Option.{some}
 use lib.ListN.{length}
 use Rattle.reader.specs.declared.job.Job.{Job}
 use Rattle.reader.specs.declared.plan.Plan.{Plan}

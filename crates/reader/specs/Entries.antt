@@ -1,6 +1,6 @@
 -- The entries of a job and of a plan, by number; past the end of an array everything is 0.
 use Prim.Native.Nat.{ℕ}
-use mathlib.Core.List.{List, []}
+use mathlib.Core.List.{[]}
 use lib.ListN.{getD, replicate}
 use Rattle.reader.specs.declared.job.Node.{Node}
 use Rattle.reader.specs.declared.job.Task.{Task}

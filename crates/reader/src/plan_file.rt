@@ -1,6 +1,5 @@
 // Reading a plan file after its job.
 use crate::job::Job;
-use crate::job::Task;
 use crate::number::Number;
 use crate::number::field;
 use crate::number::handed_on;
@@ -9,9 +8,8 @@ use crate::plan::Plan;
 use crate::refusal::Answer;
 use crate::refusal::Refusal;
 ghost use mathlib.Core.Path.{_≡_};
-ghost use mathlib.Core.List.{List};
-ghost use Prim.Native.Nat.{ℕ, _+_, _*_, _≤_, _<_};
-ghost use Rattle.reader.specs.Limits.{minNodes, maxNodes, maxTasks};
+ghost use Prim.Native.Nat.{_+_, _*_, _≤_, _<_};
+ghost use Rattle.reader.specs.Limits.{minNodes, maxNodes};
 ghost use Rattle.reader.specs.Number.{numberAt, numbered, faultOf};
 ghost use Rattle.reader.specs.Refusals.{answered};
 ghost use Rattle.reader.specs.Reads.{Reads};

@@ -3,12 +3,9 @@ use Prim.Native.Nat.{ℕ, _≤_, _<_, max, min}
 use mathlib.Core.Bool.{true}
 use mathlib.Core.Path.{_≡_}
 use mathlib.Core.Logic.{_↔_}
-use lib.Dec.{eqb}
 use borrow.Author.Tests.{lt-ltb, ltb-true, eqb-true, eq-eqb}
 use native.Mathlib.Omega.{arith}
-use Rattle.reader.specs.declared.job.Job.{Job}
-use Rattle.reader.specs.declared.job.Link.{Link}
-use Rattle.reader.proofs.TestLaws.{split, and-l, and-r, and-i}
+use Rattle.reader.proofs.TestLaws.{and-l, and-r, and-i}
 use Rattle.rules.specs.declared.Copy.{Copy}
 use Rattle.rules.specs.Copies.{overlap, delay}
 
@@ -29,7 +26,3 @@ overlap-is c d = (
       (eqb-true _ _ (and-l _ _ h), (max (c .start) (d .start), (omega arith, omega arith), (omega arith, omega arith))),
   λ w. overlap-i c d (w .1 .0) (w .0) (w .1 .1) (w .1 .2),
 )
-
-pub delay-le : (job : Job) (l : Link) (c d : Copy) → delay job l c d ≤ l .delay
-unfolding delay
-delay-le job l c d = split (eqb (c .node) (d .node)) (λ e. rw e (omega arith)) (λ e. rw e (omega arith))

@@ -3,7 +3,7 @@ use Prim.Native.Nat.{ℕ, _<_}
 use mathlib.Core.Bool.{true, false}
 use mathlib.Core.Path.{_≡_, ap, fun-ext}
 use lib.Dec.{eqb}
-use borrow.Author.Tests.{eqb-true, eq-eqb, ne-eqb}
+use borrow.Author.Tests.{eqb-true}
 use native.Mathlib.Omega.{arith}
 use Rattle.reader.specs.declared.job.Job.{Job}
 use Rattle.reader.specs.declared.plan.Plan.{Plan}
@@ -40,21 +40,6 @@ module _ (job : Job) (t : ℕ → Row) (j : ℕ) (p : Copy) (q : ℕ) where
   faults-e h here over =
       or-e _ _ h (λ e. here (eqb-true _ _ e)) λ s. any-e (links job) _ s λ k pk e.
       over k pk (eqb-true _ _ (and-l _ _ e)) (not-e _ (and-l _ _ (and-r _ _ e))) (and-r _ _ (and-r _ _ e))
-
--- what a link carries, by its cases
-module _ (job : Job) (t : ℕ → Row) (j : ℕ) (p : Copy) (q k : ℕ) where
-  pub carries-other : (link job k .to ≡ j → ⊥) → carries job t j p q k ≡ false
-  unfolding carries _and_
-  carries-other e = rw (ne-eqb (link job k .to) j e)
-
-  pub carries-strong : strong job (link job k) (t (link job k .from)) p ≡ true → carries job t j p q k ≡ false
-  unfolding carries _and_
-  carries-strong e = split (eqb (link job k .to) j) (λ h. rw (h, e)) (λ h. rw h)
-
-  pub carries-weak : link job k .to ≡ j → strong job (link job k) (t (link job k .from)) p ≡ false
-      → carries job t j p q k ≡ t (link job k .from) .faults q
-  unfolding carries _and_
-  carries-weak e w = rw (eq-eqb (link job k .to) j e, w)
 
 -- a row reads the rows before it only, so the tables are their own
 module _ (job : Job) (sound : Sound job) where

@@ -1,14 +1,12 @@
 -- Demand 3 at the level of bytes: where the judge's call passes two files, replay's call shows that every task survives.
-use Prim.Native.Nat.{ℕ, _+_, _*_, _≤_, _<_}
-use mathlib.Core.Path.{_≡_, refl, sym, ap, _∙_}
+use Prim.Native.Nat.{ℕ, _+_, _*_, _≤_}
+use mathlib.Core.Path.{_≡_, refl}
 use mathlib.Core.List.{List, _++_}
-use mathlib.Core.Option.{Option, none, some}
-use lib.Dec.{ltb}
-use lib.ListN.{length, getD, drop, List·getD-append}
+use mathlib.Core.Option.{none}
+use lib.ListN.{length, getD, List·getD-append}
 use native.Mathlib.Omega.{arith}
 use borrow.Author.Tests.{lt-ltb, le-leb}
 use Rattle.reader.specs.declared.job.Job.{Job}
-use Rattle.reader.specs.declared.plan.Plan.{Plan}
 use Rattle.reader.specs.declared.refusal.Answer.the-variants.{Done}
 use Rattle.reader.specs.Entries.{tasks}
 use Rattle.reader.specs.Sound.{Sound, PlanSound}
@@ -20,17 +18,14 @@ use Rattle.reader.proofs.FirstLaws.{or-else-l, or-else-r, or-else-i, none-unles
 use Rattle.reader.proofs.RefusalLaws.{answered-done}
 use Rattle.reader.proofs.Promise.{job-sound, plan-sound}
 use Rattle.reader.proofs.PackingLaws.{result-done}
-use Rattle.writer.specs.Write.{roomFault, writes}
+use Rattle.writer.specs.Write.{roomFault}
 use Rattle.rules.specs.declared.Loss.{Loss}
 use Rattle.rules.specs.declared.Loss.the-variants.{NoLoss, Lost}
 use Rattle.rules.specs.Copies.{domains}
-use Rattle.rules.specs.Rules.{rows}
-use Rattle.rules.specs.Judge.{breach, judge}
-use Rattle.rules.specs.Replay.{replay}
-use Rattle.rules.specs.Survival.{LossOf, Survives}
+use Rattle.rules.specs.Judge.{judge}
+use Rattle.rules.specs.Survival.{LossOf}
 use Rattle.rules.proofs.PassedSurvives.{passed-survives}
-use Rattle.replay.specs.Outcomes.{replayBytes}
-use Rattle.replay.specs.Survival.{OneFinished, BytesSurvive}
+use Rattle.replay.specs.Survival.{BytesSurvive}
 use Rattle.replay.proofs.WriteLaws.{length-replay}
 use Rattle.replay.proofs.BytesSurvive.{bytes-survive}
 use Rattle.seqopchi.specs.Files.{planIn, judgeFiles, lossFault, replayFault, replayFiles}

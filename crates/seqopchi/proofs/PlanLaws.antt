@@ -1,33 +1,29 @@
 -- Laws of the planner's call: each step behind those that passed.
-use Prim.Native.Nat.{ℕ, _+_, _*_, _≤_, _<_, min}
-use mathlib.Core.Path.{_≡_, refl, sym, ap, ap₂, _∙_, subst}
-use mathlib.Core.List.{List, _++_}
-use mathlib.Core.Option.{Option, none, some}
-use lib.ListN.{length, drop}
+use Prim.Native.Nat.{ℕ, _≤_, _<_, min}
+use mathlib.Core.Path.{_≡_, refl, sym, ap, _∙_, subst}
+use mathlib.Core.List.{List}
+use mathlib.Core.Option.{none, some}
+use lib.ListN.{length}
 use native.Mathlib.Omega.{arith}
 use borrow.Author.Tests.{lt-leb, le-leb}
-use Rattle.reader.specs.declared.job.Job.{Job}
 use Rattle.reader.specs.declared.job_file.JobRead.{JobRead}
-use Rattle.reader.specs.declared.plan.Plan.{Plan}
 use Rattle.reader.specs.declared.refusal.Refusal.{Refusal}
 use Rattle.reader.specs.declared.refusal.Refusal.the-variants.{ShortBuffer}
-use Rattle.reader.specs.declared.refusal.Answer.{Answer}
 use Rattle.reader.specs.declared.refusal.Answer.the-variants.{Done, Refused}
 use Rattle.reader.specs.First.{_or-else_, unless}
 use Rattle.reader.specs.Limits.{maxTasks}
 use Rattle.reader.specs.Entries.{tasks}
-use Rattle.reader.specs.Sound.{Sound, PlanSound}
+use Rattle.reader.specs.Sound.{Sound}
 use Rattle.reader.specs.Refusals.{answered}
 use Rattle.reader.specs.JobFile.{jobFault, jobAt, readJob}
 use Rattle.reader.specs.PlanFile.{planLength}
-use Rattle.reader.proofs.TestLaws.{never}
 use Rattle.reader.proofs.RefusalLaws.{answered-refused}
 use Rattle.reader.proofs.Chain.{pass, stop}
 use Rattle.reader.proofs.Promise.{JobDone, job-done}
-use Rattle.writer.specs.Write.{splice, pack, planNumbers, planBytes, roomFault, Written, writes}
+use Rattle.writer.specs.Write.{splice, pack, planNumbers, planBytes, roomFault}
 use Rattle.writer.specs.Puts.{Puts}
 use Rattle.writer.proofs.PutLaws.{splice-front}
-use Rattle.rules.specs.Attempts.{Attempt, refused, placed}
+use Rattle.rules.specs.Attempts.{placed}
 use Rattle.rules.specs.Planner.{planner}
 use Rattle.rules.proofs.PlannedPasses.{planned-sound}
 use Rattle.planner.specs.declared.Planned.{Planned}

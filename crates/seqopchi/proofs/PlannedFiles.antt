@@ -2,12 +2,11 @@
 use Prim.Native.Nat.{ℕ}
 use mathlib.Core.Path.{_≡_, refl, sym, ap, _∙_}
 use mathlib.Core.List.{List, _++_}
-use mathlib.Core.Option.{Option, none, some}
+use mathlib.Core.Option.{none}
 use lib.ListN.{length, take, drop}
 use lib.Seq.{take-at}
 use Rattle.reader.specs.declared.job.Job.{Job}
 use Rattle.reader.specs.declared.plan.Plan.{Plan}
-use Rattle.reader.specs.declared.refusal.Refusal.{Refusal}
 use Rattle.reader.specs.declared.refusal.Answer.the-variants.{Done}
 use Rattle.reader.specs.Entries.{tasks}
 use Rattle.reader.specs.Sound.{Sound, PlanSound}
@@ -19,7 +18,7 @@ use Rattle.reader.proofs.TestLaws.{never}
 use Rattle.reader.proofs.RefusalLaws.{answered-done}
 use Rattle.reader.proofs.Promise.{job-sound, none-value}
 use Rattle.reader.proofs.PackingLaws.{result-done}
-use Rattle.writer.specs.Write.{planBytes, Written, writes}
+use Rattle.writer.specs.Write.{planBytes}
 use Rattle.writer.proofs.SoundReads.{sound-plan-reads}
 use Rattle.writer.proofs.SoundWrites.{sound-plan-length, filled-plan-reread}
 use Rattle.rules.specs.Rules.{rows}
@@ -27,7 +26,7 @@ use Rattle.rules.specs.Judge.{breach, judge}
 use Rattle.rules.specs.Attempts.{Attempt, refused, placed}
 use Rattle.rules.specs.Planner.{planner}
 use Rattle.rules.proofs.PlannedPasses.{planned-sound, planned-passes, planned-places}
-use Rattle.seqopchi.specs.Files.{planIn, judgeFiles, refusalOf, planOr, planFileFault, planFile}
+use Rattle.seqopchi.specs.Files.{judgeFiles, refusalOf, planOr, planFileFault, planFile}
 
 -- an attempt that was not refused placed something
 placed-plan : (a : Attempt Plan) → refusalOf a ≡ none → a ≡ placed (planOr a)

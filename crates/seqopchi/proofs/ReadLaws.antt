@@ -1,13 +1,12 @@
 -- Laws of the calls that read two files: each step behind those that passed.
 use Prim.Native.Nat.{ℕ, _*_, _≤_, _<_}
-use mathlib.Core.Path.{_≡_, refl, sym, ap, ap₂, _∙_, subst}
+use mathlib.Core.Path.{_≡_, sym, ap, ap₂, _∙_, subst}
 use mathlib.Core.List.{List, _++_}
-use mathlib.Core.Option.{Option, none, some}
+use mathlib.Core.Option.{none, some}
 use lib.ListN.{length, drop}
 use borrow.Author.Tests.{lt-leb, le-leb, lt-ltb, le-ltb}
 use Rattle.reader.specs.declared.job.Job.{Job}
 use Rattle.reader.specs.declared.job_file.JobRead.{JobRead}
-use Rattle.reader.specs.declared.plan.Plan.{Plan}
 use Rattle.reader.specs.declared.plan_file.PlanRead.{PlanRead}
 use Rattle.reader.specs.declared.refusal.Refusal.{Refusal}
 use Rattle.reader.specs.declared.refusal.Refusal.the-variants.{ShortBuffer, NoSuchNode}
@@ -22,7 +21,7 @@ use Rattle.reader.specs.PlanFile.{planFault, planAt, readPlan}
 use Rattle.reader.proofs.RefusalLaws.{answered-done, answered-refused}
 use Rattle.reader.proofs.Chain.{pass, stop}
 use Rattle.reader.proofs.Promise.{JobDone, job-done, PlanDone, plan-done}
-use Rattle.writer.specs.Write.{roomFault, Written, writes}
+use Rattle.writer.specs.Write.{roomFault, Written}
 use Rattle.rules.specs.declared.Loss.{Loss}
 use Rattle.rules.specs.declared.Loss.the-variants.{NoLoss, Lost}
 use Rattle.rules.specs.Judge.{judge}

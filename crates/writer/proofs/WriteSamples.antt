@@ -1,7 +1,6 @@
 -- Writing, computed: a job's fault comes before 17, and a refusal leaves the buffer as it was.
 use mathlib.Core.Path.{_≡_, refl}
-use mathlib.Core.List.{List, [], _∷_, _++_}
-use Prim.Native.Nat.{ℕ}
+use mathlib.Core.List.{[], _∷_, _++_}
 use lib.ListN.{replicate}
 use Rattle.reader.specs.declared.refusal.Refusal.the-variants.{Count, ShortBuffer}
 use Rattle.reader.specs.declared.refusal.Answer.the-variants.{Done, Refused}

@@ -1,6 +1,5 @@
 -- `copies::table::put` meets its contract.
 use borrow.Author.Needs.{needs}
-use native.Mathlib.Omega.{arith}
 use Rattle.copies.proofs.TableLaws.{stored-whole, stored}
 use Rattle.copies.proofs.table.put.Statement.{statement}
 use Rattle.copies.proofs.table.put.Tie as tie

@@ -1,6 +1,5 @@
 -- `judge::overlaps::pair_clash` meets its contract.
 use borrow.Author.Needs.{needs}
-use native.Mathlib.Omega.{arith}
 use Rattle.judge.proofs.OverlapLaws.{pair-bounds}
 use Rattle.judge.proofs.overlaps.pair_clash.Statement.{statement}
 use Rattle.judge.proofs.overlaps.pair_clash.Tie as tie

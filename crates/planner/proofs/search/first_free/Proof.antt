@@ -1,5 +1,5 @@
 -- `planner::search::first_free` meets its contract.
-use Prim.Native.Nat.{_+_, _-_}
+use Prim.Native.Nat.{_-_}
 use native.Mathlib.Omega.{arith}
 use Rattle.copies.specs.Table.{table}
 use Rattle.planner.specs.Search.{Leapt}

@@ -1,5 +1,4 @@
 -- `planner::slot::slot_by` meets its contract.
-use borrow.Author.Needs.{needs}
 use Rattle.planner.proofs.BestLaws.{place-yes, place-no}
 use Rattle.planner.proofs.slot.slot_by.Statement.{statement}
 use Rattle.planner.proofs.slot.slot_by.Tie as tie

@@ -1,9 +1,6 @@
-use Prim.Native.Nat.{_+_, _*_, _≤_}
 use mathlib.Core.Path.{refl}
 use native.Mathlib.Omega.{arith}
 use borrow.Author.Needs.{needs}
-use Rattle.reader.specs.Limits.{maxNodes, maxTasks, maxLinks}
-use Rattle.reader.specs.JobFile.{linkSection, jobLength}
 use Rattle.reader.proofs.Chain.{handed}
 use Rattle.reader.proofs.LengthLaws.{link-section-most, job-length-most}
 use Rattle.reader.proofs.JobLaws.{job-refused, bad-version, bad-nodes, node-room, bad-tasks, task-least, bad-links, bad-tail, whole-job}

@@ -1,5 +1,4 @@
 -- The number at an offset of the file stands in the part at that offset less the part's beginning.
-use mathlib.Core.Path.{_≡_}
 use borrow.Author.Needs.{needs}
 use Rattle.reader.specs.Number.{numberAt}
 use Rattle.reader.proofs.NumberLaws.{field-short, field-low, field-high, field-is}
