@@ -11,10 +11,10 @@ DEMO_LOSS := 1@16
 
 tool: build/seqopchi
 
-# Proved and built anew when a source or a proof has changed: 'rt check' proves two
-# crates at a time. The copy outlives 'rt ci', which removes target/.
+# Proved and built anew when a source or a proof has changed: 'rt check' proves what
+# the library rests on, two crates at a time. The copy outlives 'rt ci', which removes target/.
 build/libseqopchi.a: $(shell find crates -type f 2>/dev/null)
-	rt check seqopchi
+	rt check writer judge planner replay
 	rt staticlib seqopchi
 	@mkdir -p build
 	cp target/staticlib/libseqopchi.a $@
