@@ -356,4 +356,27 @@ static const struct copy *put_outcome(const struct run *run, uint32_t task, enum
     return finished;
 }
 
+/* The C interface of one side, over its own `replay`; its planner has a function of its own. */
+#define EXPORT_JUDGE_AND_REPLAY(side)                                                             \
+    uint64_t side##_judge(const uint8_t *job, size_t job_length, const uint8_t *plan,             \
+                          size_t plan_length)                                                     \
+    {                                                                                             \
+        return judge(open_bytes(job, job_length), open_bytes(plan, plan_length));                 \
+    }                                                                                             \
+    uint64_t side##_replay(const uint8_t *job, size_t job_length, const uint8_t *plan,            \
+                           size_t plan_length, uint8_t *out, size_t out_length)                   \
+    {                                                                                             \
+        struct loss none = { 0, 0, 0 };                                                           \
+        return replay(open_bytes(job, job_length), open_bytes(plan, plan_length), none, out,      \
+                      out_length);                                                                \
+    }                                                                                             \
+    uint64_t side##_replay_loss(const uint8_t *job, size_t job_length, const uint8_t *plan,       \
+                                size_t plan_length, uint32_t node, uint32_t moment, uint8_t *out, \
+                                size_t out_length)                                                \
+    {                                                                                             \
+        struct loss loss = { 1, node, moment };                                                   \
+        return replay(open_bytes(job, job_length), open_bytes(plan, plan_length), loss, out,      \
+                      out_length);                                                                \
+    }
+
 #endif

@@ -50,7 +50,7 @@ pub fn plan_job(job: Job) -> Planned
 {
     let n = job.task_count as usize;
     let nodes = job.node_count as usize;
-    let net = Senders::of(job);
+    let s = Senders::of(job);
     let mut node = [0u32; Copies::COUNT];
     let mut start = [0u32; Copies::COUNT];
     let mut finish = [0u32; Copies::COUNT];
@@ -60,23 +60,14 @@ pub fn plan_job(job: Job) -> Planned
     let mut j: usize = 0;
     while j < n {
         let task = job.tasks[j];
-        let into = net.last[j];
-        let given = gather(&net.before, &net.from, &net.delay, &node, &finish, into);
+        let into = s.last[j];
+        let given = gather(&s.before, &s.from, &s.delay, &node, &finish, into);
         let first = primary_search(task, nodes, given);
         let a = best_slot(&node, &start, &finish, &sets, &before, &last, first);
         let Slot::At(p) = a else {
             return unplanned(Refusal::NoPrimary(j));
         };
-        let set = fault_set(
-            &net.before,
-            &net.from,
-            &net.delay,
-            &node,
-            &finish,
-            &sets,
-            into,
-            p,
-        );
+        let set = fault_set(&s.before, &s.from, &s.delay, &node, &finish, &sets, into, p);
         let i = p.node as usize;
         let w = job.nodes[i];
         let second = backup_search(task, nodes, given, p.finish + w.detect, set);

@@ -323,16 +323,14 @@ pub fn read_job(file: &[u8]) -> JobRead
     let Answer::Done = na else {
         return no_job(na);
     };
-    let p = nodes.count;
-    let start = 8 + 4 * p;
-    let tasks = read_tasks(&file[start..], start, p);
+    let start = 8 + 4 * nodes.count;
+    let tasks = read_tasks(&file[start..], start, nodes.count);
     let ta = tasks.answer;
     let Answer::Done = ta else {
         return no_job(ta);
     };
-    let n = tasks.count;
-    let behind = start + 4 + n * (4 + 4 * p);
-    let links = read_links(file, behind, n);
+    let behind = start + 4 + tasks.count * (4 + 4 * nodes.count);
+    let links = read_links(file, behind, tasks.count);
     let la = links.answer;
     let Answer::Done = la else {
         return no_job(la);
@@ -348,9 +346,9 @@ pub fn read_job(file: &[u8]) -> JobRead
         answer: Answer::Done,
         job: Job {
             version,
-            node_count: p as u32,
+            node_count: nodes.count as u32,
             nodes: nl,
-            task_count: n as u32,
+            task_count: tasks.count as u32,
             tasks: tl,
             link_count: links.count as u32,
             links: ll,

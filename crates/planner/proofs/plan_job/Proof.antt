@@ -11,10 +11,10 @@ use Rattle.planner.proofs.plan_job.Statement.{statement}
 use Rattle.planner.proofs.plan_job.Tie as tie
 
 abbrev Inv-loop : tie.InvT-loop
-Inv-loop job n nodes net node₀ start₀ finish₀ sets₀ before₀ last₀ j₀ node start finish sets before last j = Planning job net j (table node start finish sets) before last
+Inv-loop job n nodes s node₀ start₀ finish₀ sets₀ before₀ last₀ j₀ node start finish sets before last j = Planning job s j (table node start finish sets) before last
 
 abbrev μ-loop : tie.MeasureT-loop
-μ-loop job n nodes net node₀ start₀ finish₀ sets₀ before₀ last₀ j₀ node start finish sets before last j = n - j
+μ-loop job n nodes s node₀ start₀ finish₀ sets₀ before₀ last₀ j₀ node start finish sets before last j = n - j
 
 loop-holds : tie.Need-loop-holds Inv-loop μ-loop
 loop-holds c = plan-start _ _ _ _ (c .before .pre) (c .of .ensures) refl refl
