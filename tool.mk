@@ -1,5 +1,5 @@
-# The command line tool, its tests and the demo: included by the Makefile.
-.PHONY: tool demo charts test-tool
+# The command line tool, its tests and the demo, and the check of the header: included by the Makefile.
+.PHONY: tool demo charts limits test-tool
 
 SEQOPCHI_LIB ?= build/libseqopchi.a
 TOOL_SOURCES := $(sort $(wildcard tool/*.c))
@@ -34,6 +34,14 @@ build/header-checked: include/seqopchi.h
 	$(CC) $(TOOL_FLAGS) -fsyntax-only build/header.c
 	$(CXX) -std=c++11 -Iinclude $(TOOL_WARNINGS) -x c++ -fsyntax-only build/header.c
 	@touch $@
+
+# The header's limits and lengths against the library's, through the calls.
+limits: build/limits
+	build/limits
+
+build/limits: tool/limits/limits.c include/seqopchi.h $(SEQOPCHI_LIB)
+	@mkdir -p build
+	$(CC) $(TOOL_SANITIZE) $(TOOL_FLAGS) tool/limits/limits.c $(SEQOPCHI_LIB) -o $@
 
 test-tool: build/seqopchi-sanitized build/header-checked
 	tool/test.sh build/seqopchi-sanitized

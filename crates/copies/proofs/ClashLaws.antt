@@ -1,11 +1,12 @@
 -- Laws of clashes: the hot loop, what 0 says, and that it is rule G.
 use Prim.Native.Nat.{ℕ, zero, suc, _+_, _*_, _/_, _≤_, _<_, max, min}
-use mathlib.Core.Bool.{Bool, true, false, not}
+use mathlib.Core.Bool.{Bool, true, false, not, cond, _&&_}
 use mathlib.Core.List.{List}
 use mathlib.Core.Path.{_≡_, refl, sym, _∙_, ap, ap₂, subst}
+use lib.Bits.{bitAnd}
 use lib.Dec.{ltb, eqb}
 use lib.ListN.{getD}
-use borrow.Author.Tests.{eqb-true, eq-eqb, ltb-true, lt-ltb}
+use borrow.Author.Tests.{eqb-true, eq-eqb, ne-eqb, ltb-true, lt-ltb, le-ltb}
 use native.Mathlib.Decide.{decLt}
 use native.Mathlib.Nat.{not-suc-le-zero}
 use native.Mathlib.Omega.{arith}
@@ -14,7 +15,7 @@ use Rattle.reader.specs.Limits.{maxNodes}
 use Rattle.reader.specs.Entries.{nodes}
 use Rattle.reader.specs.Tests.{_and_}
 use Rattle.reader.specs.First.{every, any}
-use Rattle.reader.proofs.TestLaws.{split, clash, below-suc, and-i, and-l, and-r, not-i, not-e, not-true, same-test}
+use Rattle.reader.proofs.TestLaws.{split, clash, below-suc, and-i, and-l, and-r, not-i, not-e, same-test}
 use Rattle.reader.proofs.FirstLaws.{every-i, every-e, every-same}
 use Rattle.rules.specs.declared.Copy.{Copy}
 use Rattle.rules.specs.Copies.{overlap}
@@ -23,39 +24,78 @@ use Rattle.copies.specs.declared.table.Copies.{Copies}
 use Rattle.copies.specs.Sets.{has, meets, everyNode}
 use Rattle.copies.specs.Table.{nodeAt, entry, setAt, rowOf, Held}
 use Rattle.copies.specs.Chain.{lastOf, Chain}
-use Rattle.copies.specs.Clash.{clashes, free, boundOf, latest}
+use Rattle.copies.specs.Clash.{clashes, free, untilOf, lateOf, boundOf, latest}
 use Rattle.reader.proofs.TestLaws.{and-yes, and-no}
 use Rattle.copies.proofs.ChainLaws.{last-most, last-gap, chain-before, chain-down, chain-next}
 use Rattle.copies.proofs.SetLaws.{meets-i, meets-any, has-every}
 
--- one entry, by the tests that it passes, or the one that it fails
-module _ (m : ℕ) (c : Copy) (node start finish z : ℕ) where
-  abbrev its : Copy
-  its = record { node = node; start = start; finish = finish }
+-- what is later than s
+module _ (s : ℕ) where
+  late-some : (x : ℕ) → s < x → lateOf s x ≡ x
+  unfolding lateOf
+  late-some x p = rw (lt-ltb s x p)
 
-  pub bound-hit : node ≡ c .node → meets z m ≡ true → ltb start (c .finish) ≡ true → ltb (c .start) finish ≡ true → finish ≡ boundOf m c its z
-  unfolding boundOf clashes _and_
-  bound-hit n s a b = rw (eq-eqb node (c .node) n, s, a, b)
+  late-none : (x : ℕ) → x ≤ s → lateOf s x ≡ 0
+  unfolding lateOf
+  late-none x p = rw (le-ltb s x p)
 
-  bound-miss : (clashes m c its z ≡ true → ⊥) → 0 ≡ boundOf m c its z
-  unfolding boundOf
-  bound-miss h = rw (not-true _ h)
+  late-max : (x y : ℕ) → lateOf s (max x y) ≡ max (lateOf s x) (lateOf s y)
+  late-max x y = elim (decLt s x) [
+    | yes p ↦ elim (decLt s y) [
+      | yes q ↦ omega (arith, late-some x p, late-some y q, late-some (max x y) (omega arith))
+      | no q ↦ omega (arith, late-some x p, late-none y (omega arith), late-some (max x y) (omega arith))
+    ]
+    | no p ↦ elim (decLt s y) [
+      | yes q ↦ omega (arith, late-none x (omega arith), late-some y q, late-some (max x y) (omega arith))
+      | no q ↦ omega (arith, late-none x (omega arith), late-none y (omega arith), late-none (max x y) (omega arith))
+    ]
+  ]
 
-  pub miss-node : (node ≡ c .node → ⊥) → 0 ≡ boundOf m c its z
-  unfolding clashes
-  miss-node h = bound-miss λ t. h (eqb-true node (c .node) (and-l _ _ t))
+-- one entry, by its tests
+module _ (m : ℕ) (c : Copy) (start finish z : ℕ) where
+  pub until-is : (at more shared r : ℕ) → more ≡ max at finish → shared ≡ cond (not (eqb (bitAnd z m) 0)) more at
+      → r ≡ cond (ltb start (c .finish)) shared at → r ≡ max at (untilOf m c start finish z)
+  unfolding untilOf meets _and_
+  until-is at more shared r x y e = rw (e, y, x) (go (not (eqb (bitAnd z m) 0)) (ltb start (c .finish)))
+    where
+      go : (s u : Bool) → cond u (cond s (max at finish) at) at ≡ max at (cond (s and u) finish 0)
+      go true true = refl
+      go true false = omega arith
+      go false true = omega arith
+      go false false = omega arith
 
-  pub miss-set : meets z m ≡ false → 0 ≡ boundOf m c its z
-  unfolding clashes
-  miss-set h = bound-miss λ t. clash _ (and-l _ _ (and-r _ _ t)) h
+  -- on the copy's node it clashes where that is late, on another not at all
+  module _ (node : ℕ) where
+    abbrev its : Copy
+    its = record { node = node; start = start; finish = finish }
 
-  pub miss-start : ltb start (c .finish) ≡ false → 0 ≡ boundOf m c its z
-  unfolding clashes
-  miss-start h = bound-miss λ t. clash _ (and-l _ _ (and-r _ _ (and-r _ _ t))) h
+    late-bound : node ≡ c .node → lateOf (c .start) (untilOf m c start finish z) ≡ boundOf m c its z
+    unfolding lateOf untilOf boundOf clashes _and_
+    late-bound n = rw (eq-eqb node (c .node) n) (go (meets z m) (ltb start (c .finish)))
+      where
+        none : _≡_ {A = ℕ} (cond (ltb (c .start) 0) 0 0) 0
+        none = split (ltb (c .start) 0) (λ e. rw e) (λ e. rw e)
 
-  pub miss-finish : ltb (c .start) finish ≡ false → 0 ≡ boundOf m c its z
-  unfolding clashes
-  miss-finish h = bound-miss λ t. clash _ (and-r _ _ (and-r _ _ (and-r _ _ t))) h
+        go : (s u : Bool) → cond (ltb (c .start) (cond (s and u) finish 0)) (cond (s and u) finish 0) 0 ≡ cond (s and u and ltb (c .start) finish) finish 0
+        go true true = refl
+        go true false = none
+        go false u = none
+
+    pub hits-is : node ≡ c .node → (not (eqb (bitAnd z m) 0) && ltb start (c .finish) && ltb (c .start) finish) ≡ clashes m c its z
+    unfolding clashes meets _and_
+    hits-is n = rw (eq-eqb node (c .node) n) (go (not (eqb (bitAnd z m) 0)) (ltb start (c .finish)) (ltb (c .start) finish))
+      where
+        go : (s u v : Bool) → (s && u && v) ≡ (s and u and v)
+        go true u v = refl
+        go false u v = refl
+
+    pub bound-is : (b : Bool) (r : ℕ) → b ≡ clashes m c its z → r ≡ cond b finish 0 → r ≡ boundOf m c its z
+    unfolding boundOf
+    bound-is b r e h = h ∙ ap (λ b. cond b finish 0) e
+
+    pub miss-node : (node ≡ c .node → ⊥) → 0 ≡ boundOf m c its z
+    unfolding boundOf clashes _and_
+    miss-node h = rw (ne-eqb node (c .node) h)
 
 -- for the loop along a chain: what is left of it
 module _ (cs : Copies) (m : ℕ) (c : Copy) where
@@ -67,43 +107,58 @@ module _ (cs : Copies) (m : ℕ) (c : Copy) where
     | yes q ↦ let e : last ≡ suc k = omega arith in ap (latest cs m c) e
     | no q ↦
         latest-rest last k (omega arith) (λ i x y. h i x (omega arith))
-        ∙ omega (arith, miss-node m c (entry cs k .node) (entry cs k .start) (entry cs k .finish) (setAt cs k) (h k (omega arith) (omega arith)))
+        ∙ omega (arith, miss-node m c (entry cs k .start) (entry cs k .finish) (setAt cs k) (entry cs k .node) (h k (omega arith) (omega arith)))
   ]
 
   pub latest-last : (k : ℕ) → latest cs m c (lastOf (nodeAt (cs .node)) (c .node) k) ≡ latest cs m c k
   latest-last k = latest-rest _ k (last-most _ (c .node) k) (last-gap (nodeAt (cs .node)) (c .node) k)
 
-  -- at is the latest of those passed, from `last` down to `left`
+  -- at is the latest of those passed, from `last` down to `left`, where it is later than the copy's start
   pub record Passed (before : List ℕ) (last left at : ℕ) : Type 0 where
     pub within : left ≤ last
     pub chain : Chain (nodeAt (cs .node)) before (c .node) left
-    pub is : max at (latest cs m c left) ≡ latest cs m c last
+    pub is : max (lateOf (c .start) at) (latest cs m c left) ≡ latest cs m c last
 
   module _ (before : List ℕ) (last : ℕ) where
     pub latest-start : Chain (nodeAt (cs .node)) before (c .node) last → Passed before last last 0
-    latest-start h = record { within = omega arith; chain = h; is = omega arith }
+    latest-start h = record { within = omega arith; chain = h; is = omega (arith, late-none (c .start) 0 (omega arith)) }
 
-    pub latest-more : (k left at b r : ℕ) → left ≡ suc k → Passed before last left at → b ≡ boundOf m c (entry cs k) (setAt cs k) → r ≡ max at b
+    latest-step : (k left at r : ℕ) → left ≡ suc k → Passed before last left at
+        → (entry cs k .node ≡ c .node → lateOf (c .start) r ≡ max (lateOf (c .start) at) (boundOf m c (entry cs k) (setAt cs k)))
         → Passed before last (getD before k 0) r
     unfolding latest
-    latest-more k left at b r e h g s =
+    latest-step k left at r e h g =
         let it : Passed before last (suc k) at = subst (λ x. Passed before last x at) e h in
         record {
           within = omega (arith, it .within, chain-down _ before (c .node) k (it .chain));
           chain = chain-next _ before (c .node) k (it .chain);
           is =
               let step : latest cs m c (suc k) ≡ max (latest cs m c k) (boundOf m c (entry cs k) (setAt cs k)) = refl in
-              let rest : latest cs m c (getD before k 0) ≡ latest cs m c k = ap (latest cs m c) (chain-before _ before (c .node) k (it .chain)) ∙ latest-last k in
-              omega (arith, it .is, step, rest, g, s);
+              let rest : latest cs m c (getD before k 0) ≡ latest cs m c k =
+              ap (latest cs m c) (chain-before _ before (c .node) k (it .chain)) ∙ latest-last k in
+              omega (arith, it .is, step, rest, g (it .chain .tip k refl));
         }
+
+    pub latest-more : (k left at r : ℕ) → left ≡ suc k → Passed before last left at
+        → r ≡ max at (untilOf m c (getD (cs .start) k 0) (getD (cs .finish) k 0) (setAt cs k)) → Passed before last (getD before k 0) r
+    latest-more k left at r e h g =
+        latest-step k left at r e h λ n.
+        ap (lateOf (c .start)) g ∙ late-max (c .start) at _ ∙ ap (max (lateOf (c .start) at)) (late-bound m c _ _ _ _ n)
+
+    -- one that does not clash leaves it
+    pub latest-miss : (k left at : ℕ) → left ≡ suc k → Passed before last left at
+        → ((n : ℕ) → n ≡ c .node → false ≡ clashes m c (record { node = n; start = getD (cs .start) k 0; finish = getD (cs .finish) k 0 }) (setAt cs k))
+        → Passed before last (getD before k 0) at
+    latest-miss k left at e h g =
+        latest-step k left at at e h λ n. omega (arith, bound-is m c _ _ _ _ false 0 (g _ n) refl)
 
     pub latest-less : (k left at : ℕ) → left ≡ suc k → Passed before last left at → getD before k 0 < left
     latest-less k left at e h =
         omega (arith, chain-down _ before (c .node) k (subst (Chain (nodeAt (cs .node)) before (c .node)) e (h .chain)))
 
-    pub latest-done : (left at : ℕ) → left ≡ 0 → Passed before last left at → at ≡ latest cs m c last
-    unfolding latest
-    latest-done left at e h = let it : Passed before last 0 at = subst (λ x. Passed before last x at) e h in omega (arith, it .is)
+    pub latest-done : (left at r : ℕ) → left ≡ 0 → Passed before last left at → r ≡ cond (ltb (c .start) at) at 0 → r ≡ latest cs m c last
+    unfolding latest lateOf
+    latest-done left at r e h g = let it : Passed before last 0 at = subst (λ x. Passed before last x at) e h in omega (arith, it .is, g)
 
 -- an entry that clashes ends after the copy's start
 pub clash-ends : (m : ℕ) (c e : Copy) (z : ℕ) → clashes m c e z ≡ true → c .start < e .finish
@@ -151,6 +206,25 @@ module _ (cs : Copies) (m : ℕ) (c : Copy) where
   pub free-last : (k : ℕ) → free cs m c (lastOf (nodeAt (cs .node)) (c .node) k) ≡ free cs m c k
   free-last k = sym (latest-free _) ∙ ap (λ x. eqb x 0) (latest-last cs m c k) ∙ latest-free k
 
+  -- one that clashes ends the search
+  pub hit-found : (before : List ℕ) (last left k at : ℕ) → left ≡ suc k → Passed cs m c before last left at
+      → ((n : ℕ) → n ≡ c .node → true ≡ clashes m c (record { node = n; start = getD (cs .start) k 0; finish = getD (cs .finish) k 0 }) (setAt cs k))
+      → eqb (getD (cs .finish) k 0) 0 ≡ free cs m c last
+  unfolding latest boundOf
+  hit-found before last left k at e h g =
+      let it : Passed cs m c before last (suc k) at = subst (λ x. Passed cs m c before last x at) e h in
+      let here : clashesAt k ≡ true = sym (g (nodeAt (cs .node) k) (it .chain .tip k refl)) in
+      let after = clash-ends m c (entry cs k) (setAt cs k) here in
+      let most : max (lateOf (c .start) at) (max (latest cs m c k) (getD (cs .finish) k 0)) ≡ latest cs m c last = rw here at (it .is) in
+      ne-eqb (getD (cs .finish) k 0) 0 (λ z. omega (arith, after, z)) ∙ sym (ne-eqb (latest cs m c last) 0 (λ z. omega (arith, after, z, most)))
+      ∙ latest-free last
+
+  pub none-found : (before : List ℕ) (last left : ℕ) → left ≡ 0 → Passed cs m c before last left 0 → true ≡ free cs m c last
+  unfolding lateOf
+  none-found before last left e h =
+      let none : 0 ≡ latest cs m c last = latest-done cs m c before last left 0 0 e h (sym (late-none (c .start) 0 (omega arith))) in
+      sym (eq-eqb (latest cs m c last) 0 (sym none)) ∙ latest-free last
+
 -- two copies that last overlap exactly if each starts before the other's finish
 ticks : (a f s d : ℕ) → a < f → s < d → (ltb a d and ltb s f) ≡ ltb (max a s) (min f d)
 ticks a f s d p q =
@@ -194,19 +268,25 @@ module _ (job : Job) (cs : Copies) (j : ℕ) (few : nodes job ≤ maxNodes) (hel
   free-primary =
       pairs j _ ∙ every-same j _ _ λ i p.
       ap₂ (λ x y. not x and not y)
-      (meets-only everyNode (2 * i) (omega arith) (rw (held .primary-set i p) (meets-i everyNode everyNode 0 (has-every 0 (omega arith)) (has-every 0 (omega arith)))))
-      (meets-only everyNode (2 * i + 1) (omega arith) (meets-i _ everyNode (entry cs (2 * i) .node) (held .own i p) (has-every _ (omega (arith, held .node (2 * i) (omega arith))))))
+      (meets-only everyNode (2 * i) (omega arith)
+      (rw (held .primary-set i p) (meets-i everyNode everyNode 0 (has-every 0 (omega arith)) (has-every 0 (omega arith)))))
+      (meets-only everyNode (2 * i + 1) (omega arith)
+      (meets-i _ everyNode (entry cs (2 * i) .node) (held .own i p) (has-every _ (omega (arith, held .node (2 * i) (omega arith))))))
 
   -- of a backup, whose fault set holds `own`
   module _ (m own : ℕ) (s : Row) (b : s .backup ≡ c) (is : has m ≡ s .faults) (at : own < nodes job) (here : has m own ≡ true) where
     share-is : (i : ℕ) → i < j → meets (setAt cs (2 * i + 1)) m ≡ shareFault job (rowOf cs i) s
     unfolding shareFault rowOf
-    share-is i p = subst (λ f. meets (setAt cs (2 * i + 1)) m ≡ any (nodes job) (λ q. has (setAt cs (2 * i + 1)) q and f q)) is (meets-any (nodes job) (setAt cs (2 * i + 1)) m (λ q. held .within i q p))
+    share-is i p =
+        subst (λ f. meets (setAt cs (2 * i + 1)) m ≡ any (nodes job) (λ q. has (setAt cs (2 * i + 1)) q and f q)) is
+        (meets-any (nodes job) (setAt cs (2 * i + 1)) m (λ q. held .within i q p))
 
     pub free-backup : free cs m c (2 * j) ≡ every j (λ i. ruleGBackup job (rowOf cs i) s)
     unfolding free ruleGBackup rowOf
     free-backup =
         pairs j _ ∙ every-same j _ _ λ i p.
         ap₂ (λ x y. not x and not y)
-        (meets-only m (2 * i) (omega arith) (rw (held .primary-set i p) (meets-i everyNode m own (has-every own (omega arith)) here)) ∙ ap (overlap (entry cs (2 * i))) (sym b))
-        (clashes-is m c (entry cs (2 * i + 1)) (setAt cs (2 * i + 1)) (held .lasts (2 * i + 1) (omega arith)) lasts ∙ ap₂ (λ x y. x and y) (ap (overlap (entry cs (2 * i + 1))) (sym b)) (share-is i p))
+        (meets-only m (2 * i) (omega arith) (rw (held .primary-set i p) (meets-i everyNode m own (has-every own (omega arith)) here))
+        ∙ ap (overlap (entry cs (2 * i))) (sym b))
+        (clashes-is m c (entry cs (2 * i + 1)) (setAt cs (2 * i + 1)) (held .lasts (2 * i + 1) (omega arith)) lasts
+        ∙ ap₂ (λ x y. x and y) (ap (overlap (entry cs (2 * i + 1))) (sym b)) (share-is i p))

@@ -2,13 +2,12 @@
 use Prim.Native.Nat.{ℕ, _+_, _*_, _<_}
 use mathlib.Core.Bool.{Bool}
 use mathlib.Core.Path.{_≡_, _∙_, ap, fun-ext}
-use lib.ListN.{getD, set, length-set}
+use lib.ListN.{set, length-set}
 use lib.Seq.{getD-set-same, getD-set-other}
 use native.Mathlib.Omega.{arith}
 use Rattle.rules.specs.declared.Copy.{Copy}
 use Rattle.rules.specs.Rules.{Row, blankRow}
 use Rattle.copies.specs.declared.table.Copies.{Copies}
-use Rattle.copies.specs.Sets.{has}
 use Rattle.copies.specs.Table.{copyCount, rowOf, table, emptyCopies, Whole, Stored}
 use Rattle.copies.proofs.ListMore.{replicated}
 use Rattle.copies.proofs.SetLaws.{has-none}
@@ -54,7 +53,9 @@ module _ (cs : Copies) (whole : Whole cs) (k : ℕ) (c : Copy) (z : ℕ) (p : k 
 
 pub empty-rows : rowOf emptyCopies ≡ (λ i. blankRow)
 unfolding rowOf blankRow
-empty-rows = fun-ext λ i. rw (replicated {A = ℕ} 0 copyCount (2 * i), replicated {A = ℕ} 0 copyCount (2 * i + 1)) (ap (λ f. record { primary = blank; backup = blank; faults = f }) (fun-ext has-none))
+empty-rows =
+    fun-ext λ i. rw (replicated {A = ℕ} 0 copyCount (2 * i), replicated {A = ℕ} 0 copyCount (2 * i + 1))
+    (ap (λ f. record { primary = blank; backup = blank; faults = f }) (fun-ext has-none))
   where
     blank : Copy
     blank = record { node = 0; start = 0; finish = 0 }

@@ -17,6 +17,14 @@ clashes m c e z = eqb (e .node) (c .node) and meets z m and ltb (e .start) (c .f
 unfoldable pub free : Copies → ℕ → Copy → ℕ → Bool
 free cs m c n = every n λ k. not (clashes m c (entry cs k) (setAt cs k))
 
+-- the finish of an entry of set z with a start before c's finish, where it shares with m, else 0
+unfoldable pub untilOf : ℕ → Copy → ℕ → ℕ → ℕ → ℕ
+untilOf m c start finish z = cond (meets z m and ltb start (c .finish)) finish 0
+
+-- what is later than s, else 0
+unfoldable pub lateOf : ℕ → ℕ → ℕ
+lateOf s x = cond (ltb s x) x 0
+
 -- the finish of an entry that clashes, else 0
 unfoldable pub boundOf : ℕ → Copy → Copy → ℕ → ℕ
 boundOf m c e z = cond (clashes m c e z) (e .finish) 0

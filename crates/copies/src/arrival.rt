@@ -1,4 +1,5 @@
 // When the result of a copy arrives at another.
+ghost use mathlib.Core.Bool.{cond};
 ghost use mathlib.Core.Path.{_≡_};
 ghost use Prim.Native.Nat.{_+_, max};
 ghost use Rattle.copies.specs.Arrival.{delayOf, inTimeOf, SumFits};
@@ -7,6 +8,13 @@ pub fn later(a: u32, b: u32) -> u32
     ensures { λ r. ⌜ r ≡ max a b ⌝ }
 {
     if a < b { b } else { a }
+}
+
+// One of two values: no jump, since tests of copies follow no pattern that a processor learns.
+pub fn pick(test: bool, a: u32, b: u32) -> u32
+    ensures { λ r. ⌜ r ≡ cond test a b ⌝ }
+{
+    if test { a } else { b }
 }
 
 // 0 on one node, else the link's delay.

@@ -3,9 +3,11 @@ use reader::job::Job;
 use rules::Copy;
 ghost use mathlib.Core.Path.{_≡_};
 ghost use Prim.Native.Nat.{_<_};
-ghost use Rattle.copies.specs.Table.{copyCount, table, emptyCopies, Whole, Stored};
+ghost use mathlib.Core.List.{[]};
+ghost use Rattle.copies.specs.Table.{copyCount, table, entry, Whole, Stored};
 
-// A backup's set is its task's fault set, a primary's is every node, so that one clash test serves both.
+// The four arrays, which contracts name together and code lends one by one. A backup's set is its task's fault set, a primary's is every node, so
+// that one clash test serves both.
 pub struct Copies {
     pub node: [u32; Copies::COUNT],
     pub start: [u32; Copies::COUNT],
@@ -16,17 +18,6 @@ pub struct Copies {
 impl Copies {
     // Two for each task.
     pub const COUNT: usize = 2 * Job::MAX_TASKS;
-
-    pub fn empty() -> Copies
-        ensures { λ r. ⌜ r ≡ emptyCopies ⌝ }
-    {
-        Copies {
-            node: [0u32; Copies::COUNT],
-            start: [0u32; Copies::COUNT],
-            finish: [0u32; Copies::COUNT],
-            set: [0u32; Copies::COUNT],
-        }
-    }
 }
 
 // Stores entry k.
@@ -40,10 +31,29 @@ pub fn put(
     set: u32,
 )
     requires { ⌜ Whole (table (now node) (now start) (now finish) (now sets)) × (k < copyCount) ⌝ }
-    ensures { λ _. ⌜ Whole (table (now (node .exit)) (now (start .exit)) (now (finish .exit)) (now (sets .exit))) × Stored (table (now (node .entry)) (now (start .entry)) (now (finish .entry)) (now (sets .entry))) k copy set (table (now (node .exit)) (now (start .exit)) (now (finish .exit)) (now (sets .exit))) ⌝ }
+    ensures { λ _. ⌜ Whole (table (now (node .exit)) (now (start .exit)) (now (finish .exit)) (now (sets .exit)))
+        × Stored (table (now (node .entry)) (now (start .entry)) (now (finish .entry)) (now (sets .entry))) k copy set
+        (table (now (node .exit)) (now (start .exit)) (now (finish .exit)) (now (sets .exit))) ⌝ }
 {
     node[k] = copy.node;
     start[k] = copy.start;
     finish[k] = copy.finish;
     sets[k] = set;
+}
+
+// Entry k.
+pub fn copy_at<'c>(
+    node: &'c [u32; Copies::COUNT],
+    start: &'c [u32; Copies::COUNT],
+    finish: &'c [u32; Copies::COUNT],
+    k: usize,
+) -> Copy
+    requires { ⌜ k < copyCount ⌝ }
+    ensures { λ r. ⌜ r ≡ entry (table (now (node .entry)) (now (start .entry)) (now (finish .entry)) []) k ⌝ }
+{
+    Copy {
+        node: node[k],
+        start: start[k],
+        finish: finish[k],
+    }
 }

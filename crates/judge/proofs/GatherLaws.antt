@@ -1,15 +1,14 @@
 -- Laws of fault sets as bits: one sender more, and one task more.
 use Prim.Native.Nat.{ℕ, _+_, _-_, _*_, _^_, _≤_, _<_}
-use mathlib.Core.Bool.{Bool, true, false, not}
+use mathlib.Core.Bool.{Bool, true, false}
 use mathlib.Core.List.{List}
 use mathlib.Core.Path.{_≡_, sym, _∙_, ap, subst}
-use native.Mathlib.Nat.{not-suc-le-zero}
 use native.Mathlib.Omega.{arith}
 use lib.Bits.{bitOr}
 use lib.Count.{trailingZeros}
 use lib.Pow.{pow-pos}
 use lib.Dec.{eqb}
-use lib.ListN.{getD, set, length, replicate, getD-replicate, length-replicate, length-set}
+use lib.ListN.{getD, set, length-set}
 use lib.Seq.{getD-set-same, getD-set-other}
 use borrow.Author.Tests.{eqb-true}
 use Rattle.reader.specs.Tests.{_and_, _or_}
@@ -17,8 +16,7 @@ use Rattle.reader.specs.First.{any}
 use Rattle.reader.specs.Limits.{maxTasks}
 use Rattle.reader.proofs.TestLaws.{split, clash, below-suc, and-i, and-l, and-r, or-l, or-r, or-e, or-none, or-join, not-i, not-true, same-test}
 use Rattle.reader.proofs.FirstLaws.{any-i, any-e, any-same}
-use Rattle.copies.specs.Sets.{has, everyNode}
-use Rattle.copies.specs.Table.{copyCount}
+use Rattle.copies.specs.Sets.{has}
 use Rattle.copies.proofs.SetLaws.{has-union, has-one, has-none}
 use Rattle.judge.specs.Faults.{gathered, Senders, FaultSets}
 use Rattle.judge.proofs.SetMore.{has-less, has-part, least-below, least-has}
@@ -62,7 +60,9 @@ gather-more own weak sets r left bit h some fits e =
     let i = trailingZeros 64 left in
     record {
       within = omega (arith, h .within);
-      is = λ q. rw (e, has-union r (getD sets (2 * i + 1) 0) q, or-join, one-less sets left i q (sender-low left some fits) (least-has 64 left some fits)) (h .is q);
+      is = λ q.
+          rw (e, has-union r (getD sets (2 * i + 1) 0) q, or-join, one-less sets left i q (sender-low left some fits) (least-has 64 left some fits))
+          (h .is q);
     }
 
 pub gather-done : (own weak : ℕ) (sets : List ℕ) (r left : ℕ) → Gathering own weak sets r left → left ≡ 0 → (q : ℕ) → has r q ≡ gathered own weak sets q
@@ -81,26 +81,12 @@ module _ (own weak : ℕ) (sets : List ℕ) (j x q : ℕ) (below : (i : ℕ) →
       (λ e. rw (e, getD-set-other sets (2 * j + 1) (2 * i + 1) x 0 (λ c. omega (arith, below i e))))
       (λ e. rw e))
 
--- the sets of the first j tasks
-pub record Filling (node into : List ℕ) (n j : ℕ) (sets : List ℕ) : Type 0 where
-  pub within : j ≤ n
-  pub size : length sets ≡ copyCount
-  pub primary : (i : ℕ) → i < maxTasks → getD sets (2 * i) 0 ≡ everyNode
-  pub backup : (i q : ℕ) → i < j → has (getD sets (2 * i + 1) 0) q ≡ gathered (getD node (2 * i) 0) (getD into i 0) sets q
-
-pub fill-start : (node into : List ℕ) (n : ℕ) → Filling node into n 0 (replicate copyCount everyNode)
-fill-start node into n =
-    record {
-      within = omega arith;
-      size = length-replicate copyCount everyNode;
-      primary = λ i p. getD-replicate copyCount (2 * i) everyNode 0 (omega arith);
-      backup = λ i q p. absurd (not-suc-le-zero p);
-    }
-
-module _ (node into : List ℕ) (n : ℕ) (senders : Senders node into n) (j : ℕ) (sets : List ℕ) (h : Filling node into n j sets) where
+-- the set of one task more
+module _ (node into : List ℕ) (n : ℕ) (senders : Senders node into n) (j : ℕ) (sets : List ℕ) (h : FaultSets node into n j sets) where
   pub fill-more : j < n → (x : ℕ) → ((q : ℕ) → has x q ≡ gathered (getD node (2 * j) 0) (getD into j 0) sets q)
-      → Filling node into n (j + 1) (set sets (2 * j + 1) x)
+      → FaultSets node into n (j + 1) (set sets (2 * j + 1) x)
   fill-more low x is =
+      let new = set sets (2 * j + 1) x in
       record {
         within = omega arith;
         size = length-set sets (2 * j + 1) x ∙ h .size;
@@ -109,13 +95,10 @@ module _ (node into : List ℕ) (n : ℕ) (senders : Senders node into n) (j : �
             below-suc i j (omega arith)
             (λ r. ap (λ s. has s q) (getD-set-other sets (2 * j + 1) (2 * i + 1) x 0 (λ e. omega arith)) ∙ h .backup i q r
             ∙ sym (gathered-same _ _ sets j x q (λ m e. omega (arith, senders .earlier i m (omega arith) e))))
-            (λ r. subst (λ m. has (getD (set sets (2 * j + 1) x) (2 * m + 1) 0) q ≡ gathered (getD node (2 * m) 0) (getD into m 0) (set sets (2 * j + 1) x) q) (sym r)
-            (ap (λ s. has s q) (getD-set-same sets (2 * j + 1) x 0 (omega (arith, h .size, senders .few))) ∙ is q ∙ sym (gathered-same _ _ sets j x q (λ m e. senders .earlier j m low e))));
+            (λ r. subst (λ m. has (getD new (2 * m + 1) 0) q ≡ gathered (getD node (2 * m) 0) (getD into m 0) new q) (sym r)
+            (ap (λ s. has s q) (getD-set-same sets (2 * j + 1) x 0 (omega (arith, h .size, senders .few))) ∙ is q
+            ∙ sym (gathered-same _ _ sets j x q (λ m e. senders .earlier j m low e))));
       }
 
-  pub fill-done : n ≤ j → FaultSets node into n sets
-  fill-done end =
-      record {
-        primary = λ i p. h .primary i (omega (arith, senders .few));
-        backup = λ i q p. h .backup i q (omega arith);
-      }
+  pub fill-done : n ≤ j → FaultSets node into n n sets
+  fill-done end = let d : j ≡ n = omega (arith, h .within) in subst (λ m. FaultSets node into n m sets) d h

@@ -10,13 +10,14 @@ use lib.ListN.{getD, set, length, replicate, length-replicate, length-set}
 use lib.Seq.{getD-set-same, getD-set-other}
 use borrow.Author.Tests.{eqb-true, eqb-false, eq-eqb}
 use Rattle.reader.specs.declared.job.Job.{Job}
+use Rattle.reader.specs.declared.job.Link.{Link}
 use Rattle.reader.specs.declared.refusal.Refusal.{Refusal}
 use Rattle.reader.specs.declared.refusal.Refusal.the-variants.{PrimaryUnfed, BackupUnfed}
 use Rattle.reader.specs.declared.refusal.Answer.{Answer}
 use Rattle.reader.specs.Tests.{_and_, _or_}
 use Rattle.reader.specs.First.{_or-else_, any}
-use Rattle.reader.specs.Limits.{maxTasks}
-use Rattle.reader.specs.Entries.{tasks, links, link}
+use Rattle.reader.specs.Limits.{maxTasks, maxLinks}
+use Rattle.reader.specs.Entries.{links, link, noLink}
 use Rattle.reader.specs.Refusals.{answered}
 use Rattle.reader.proofs.TestLaws.{split, or-none}
 use Rattle.reader.proofs.FirstLaws.{any-start, any-more}
@@ -38,7 +39,7 @@ use Rattle.judge.proofs.NoteLaws.{note-start, note-more, note-both, not
 
 -- link k by its cases
 module _ (job : Job) (t : ℕ → Row) (k : ℕ) where
-  abbrev isStrong : Bool
+  abbrev pub isStrong : Bool
   isStrong = strong job (link job k) (t (link job k .from)) (t (link job k .to) .primary)
 
   weak-strong : (i j : ℕ) → isStrong ≡ true → weakLink job t i j k ≡ false
@@ -69,19 +70,23 @@ module _ (job : Job) (t : ℕ → Row) (k : ℕ) where
   weak-more into h s bit es eb room j i low =
       rw (any-more k (weakLink job t i j))
       (split (eqb (link job k .to) j)
-      (λ at. subst (λ m. has (getD (set into (link job k .to) new) m 0) i ≡ (any k (weakLink job t i m) or weakLink job t i m k)) (eqb-true (link job k .to) j at) (here (eqb-true (link job k .to) j at)))
       (λ at.
-      rw (weak-other i j at, or-none, getD-set-other into (link job k .to) j new 0 (λ e. eqb-false (link job k .to) j at (sym e)))
+      let e = eqb-true to j at in
+      subst (λ m. has (getD (set into to new) m 0) i ≡ (any k (weakLink job t i m) or weakLink job t i m k)) e (here e))
+      (λ at.
+      rw (weak-other i j at, or-none, getD-set-other into to j new 0 (λ e. eqb-false to j at (sym e)))
       (h j i low)))
     where
-      new : ℕ
-      new = bitOr (getD into (link job k .to) 0) bit
+      to : ℕ
+      to = link job k .to
 
-      here : link job k .to ≡ j → has (getD (set into (link job k .to) new) (link job k .to) 0) i ≡ (any k (weakLink job t i (link job k .to)) or weakLink job t i (link job k .to) k)
+      new : ℕ
+      new = bitOr (getD into to 0) bit
+
+      here : to ≡ j → has (getD (set into to new) to 0) i ≡ (any k (weakLink job t i to) or weakLink job t i to k)
       here e =
-          ap (λ x. has x i) (getD-set-same into (link job k .to) new 0 room)
-          ∙ has-union (getD into (link job k .to) 0) bit i
-          ∙ ap₂ _or_ (h (link job k .to) i (omega (arith, low, e))) (weak-bit i (link job k .to) s bit (eq-eqb (link job k .to) (link job k .to) refl) es eb)
+          ap (λ x. has x i) (getD-set-same into to new 0 room) ∙ has-union (getD into to 0) bit i
+          ∙ ap₂ _or_ (h to i (omega (arith, low, e))) (weak-bit i to s bit (eq-eqb to to refl) es eb)
 
 -- the rules of links on the table's entries
 abbrev keepsD : Job → Copies → ℕ → Bool
@@ -98,65 +103,55 @@ pub record Walking (job : Job) (cs : Copies) (k : ℕ) (into : List ℕ) (primar
   pub d : primary ≡ firstBroken k (keepsD job cs)
   pub e : backup ≡ firstBroken k (keepsE job cs)
 
-pub walk-start : (job : Job) (cs : Copies) → Walking job cs 0 (replicate maxTasks 0) nowhere nowhere
-walk-start job cs =
+pub walk-start : (job : Job) (cs : Copies) (into : List ℕ) → into ≡ replicate maxTasks 0 → Walking job cs 0 into nowhere nowhere
+walk-start job cs into zeros =
     record {
       within = omega arith;
-      size = length-replicate {A = ℕ} maxTasks 0;
-      weak = λ j i low. rw (replicated {A = ℕ} 0 maxTasks j, has-none i, any-start);
+      size = rw zeros (length-replicate {A = ℕ} maxTasks 0);
+      weak = λ j i low. rw (zeros, replicated {A = ℕ} 0 maxTasks j, has-none i, any-start);
       d = note-start _;
       e = note-start _;
     }
 
-module _ (job : Job) (cs : Copies) (timed : Timed job cs) (k : ℕ) (low : k < links job) where
-  pub to-low : link job k .to < tasks job
-  to-low = timed .sound .into k low
+-- the sender's finishes at link k, which leads from task i
+module _ (list : List Link) (n : ℕ) (cs : Copies) (timed : Timed list n cs) (k : ℕ) (low : k < n) (i : ℕ) (ei : i ≡ getD list k noLink .from) where
+  pub primary-fits : (p : Copy) → p ≡ entry cs (2 * i) → SumFits (p .finish) (getD list k noLink .delay)
+  primary-fits p e = omega (arith, ap (λ (c : Copy). c .finish) (e ∙ ap (λ m. entry cs (2 * m)) ei), timed .primary k low)
 
-  pub from-low : link job k .from < tasks job
-  from-low = omega (arith, timed .sound .rise k low, to-low)
+  pub backup-fits : (b : Copy) → b ≡ entry cs (2 * i + 1) → SumFits (b .finish) (getD list k noLink .delay)
+  backup-fits b e = omega (arith, ap (λ (c : Copy). c .finish) (e ∙ ap (λ m. entry cs (2 * m + 1)) ei), timed .backup k low)
 
-  pub from-index : link job k .from < maxTasks
-  from-index = omega (arith, from-low, timed .sound .tasks-most)
-
-  pub to-index : link job k .to < maxTasks
-  to-index = omega (arith, to-low, timed .sound .tasks-most)
-
-  -- the copies that it leads from and to
-  pub record Ends (p b q c : Copy) : Type 0 where
-    pub primary-from : p ≡ entry cs (2 * (link job k .from))
-    pub backup-from : b ≡ entry cs (2 * (link job k .from) + 1)
-    pub primary-to : q ≡ entry cs (2 * (link job k .to))
-    pub backup-to : c ≡ entry cs (2 * (link job k .to) + 1)
-
-  pub primary-fits : (p : Copy) → p ≡ entry cs (2 * (link job k .from)) → SumFits (p .finish) (link job k .delay)
-  primary-fits p e =
-      omega (arith, ap (λ (c : Copy). c .finish) e, timed .ends (2 * (link job k .from)) (omega (arith, from-low)), timed .sound .delay-most k low)
-
-  pub backup-fits : (b : Copy) → b ≡ entry cs (2 * (link job k .from) + 1) → SumFits (b .finish) (link job k .delay)
-  backup-fits b e =
-      omega (arith, ap (λ (c : Copy). c .finish) e, timed .ends (2 * (link job k .from) + 1) (omega (arith, from-low)), timed .sound .delay-most k low)
-
+-- link k, between tasks i and j
+module _ (job : Job) (cs : Copies) (timed : Timed (job .links) (links job) cs) (k : ℕ) (low : k < links job)
+    (i j : ℕ) (ei : i ≡ link job k .from) (ej : j ≡ link job k .to) where
   abbrev arrived : Copy → Copy → Bool
   arrived c d = inTimeOf (link job k .delay) (c .node) (c .finish) (d .node) (d .start)
 
-  arrival : (c d e f : Copy) (r : Bool) → c ≡ e → d ≡ f → r ≡ arrived c d → r ≡ inTime job (link job k) e f
-  arrival c d e f r ec ed er = er ∙ in-time-is job (link job k) c d ∙ ap₂ (inTime job (link job k)) ec ed
+  -- between entries m i and n j
+  arrival : (m n : ℕ → ℕ) (c d : Copy) (r : Bool) → c ≡ entry cs (m i) → d ≡ entry cs (n j) → r ≡ arrived c d
+      → r ≡ inTime job (link job k) (entry cs (m (link job k .from))) (entry cs (n (link job k .to)))
+  arrival m n c d r ec ed er =
+      er ∙ in-time-is job (link job k) c d
+      ∙ ap₂ (inTime job (link job k)) (ec ∙ ap (λ x. entry cs (m x)) ei) (ed ∙ ap (λ x. entry cs (n x)) ej)
 
   pub walk-more : (into : List ℕ) (primary backup : ℕ) → Walking job cs k into primary backup
-      → (p b q c : Copy) → Ends p b q c
+      → (p b q c : Copy) → p ≡ entry cs (2 * i) → b ≡ entry cs (2 * i + 1) → q ≡ entry cs (2 * j) → c ≡ entry cs (2 * j + 1)
       → (x y z s : Bool) → x ≡ arrived p q → y ≡ arrived p c → z ≡ arrived b c → s ≡ arrived b q
-      → (u v w bit : ℕ) → u ≡ notedOf primary k x → v ≡ notedOf backup k y → w ≡ notedOf v k z → bit ≡ cond s 0 (2 ^ (link job k .from))
-      → Walking job cs (k + 1) (set into (link job k .to) (bitOr (getD into (link job k .to) 0) bit)) u w
+      → (u v w bit : ℕ) → u ≡ notedOf primary k x → v ≡ notedOf backup k y → w ≡ notedOf v k z → bit ≡ cond s 0 (2 ^ i)
+      → Walking job cs (k + 1) (set into j (bitOr (getD into j 0) bit)) u w
   unfolding rowOf ruleD ruleE strong
-  walk-more into primary backup h p b q c ends x y z s ex ey ez es u v w bit eu ev ew eb =
-      let small : k < nowhere = omega (arith, timed .sound .links-most) in
+  walk-more into primary backup h p b q c ep eb eq ec x y z s ex ey ez es u v w bit eu ev ew ebit =
+      let small : k < nowhere = omega (arith, timed .few) in
       record {
         within = omega arith;
         size = length-set into _ _ ∙ h .size;
-        weak = weak-more job (rowOf cs) k into (h .weak) s bit (arrival b q _ _ s (ends .backup-from) (ends .primary-to) es) eb (omega (arith, to-index, h .size));
-        d = note-more (keepsD job cs) k primary u x small (h .d) (arrival p q _ _ x (ends .primary-from) (ends .primary-to) ex) eu;
+        weak =
+            subst (λ m. WeakTo job (rowOf cs) (k + 1) (set into m (bitOr (getD into m 0) bit))) (sym ej)
+            (weak-more job (rowOf cs) k into (h .weak) s bit (arrival (λ m. 2 * m + 1) (λ m. 2 * m) b q s eb eq es)
+            (ebit ∙ ap (λ m. cond s 0 (2 ^ m)) ei) (omega (arith, timed .to k low, h .size)));
+        d = note-more (keepsD job cs) k primary u x small (h .d) (arrival (λ m. 2 * m) (λ m. 2 * m) p q x ep eq ex) eu;
         e = note-more (keepsE job cs) k backup w _ small (h .e)
-            (ap₂ _and_ (arrival p c _ _ y (ends .primary-from) (ends .backup-to) ey) (arrival b c _ _ z (ends .backup-from) (ends .backup-to) ez))
+            (ap₂ _and_ (arrival (λ m. 2 * m) (λ m. 2 * m + 1) p c y ep ec ey) (arrival (λ m. 2 * m + 1) (λ m. 2 * m + 1) b c z eb ec ez))
             (note-both backup k v w y z ev ew);
       }
 
@@ -164,18 +159,19 @@ module _ (job : Job) (cs : Copies) (timed : Timed job cs) (k : ℕ) (low : k < l
 abbrev pub linkRefusal : Job → (ℕ → ℕ → Refusal) → ℕ → Refusal
 linkRefusal job refusal k = refusal (link job k .from) (link job k .to)
 
-module _ (job : Job) (cs : Copies) (timed : Timed job cs) (k : ℕ) (into : List ℕ) (primary backup : ℕ) (h : Walking job cs k into primary backup) (end : links job ≤ k) where
+module _ (job : Job) (cs : Copies) (timed : Timed (job .links) (links job) cs) (k : ℕ) (into : List ℕ) (primary backup : ℕ)
+    (h : Walking job cs k into primary backup) (end : links job ≤ k) where
   all : Walking job cs (links job) into primary backup
   all = let d : k ≡ links job = omega (arith, h .within) in subst (λ n. Walking job cs n into primary backup) d h
 
-  pub primary-index : (primary ≡ nowhere → ⊥) → primary < links job
-  primary-index = note-below (keepsD job cs) (links job) primary (timed .sound .links-most) (all .d)
+  pub primary-index : (primary ≡ nowhere → ⊥) → primary < maxLinks
+  primary-index h = omega (arith, timed .few, note-below (keepsD job cs) (links job) primary (timed .few) (all .d) h)
 
-  pub backup-index : (backup ≡ nowhere → ⊥) → backup < links job
-  backup-index = note-below (keepsE job cs) (links job) backup (timed .sound .links-most) (all .e)
+  pub backup-index : (backup ≡ nowhere → ⊥) → backup < maxLinks
+  backup-index h = omega (arith, timed .few, note-below (keepsE job cs) (links job) backup (timed .few) (all .e) h)
 
   pub walk-done : (v : Answer) → v ≡ answered (seen (linkRefusal job PrimaryUnfed) primary or-else seen (linkRefusal job BackupUnfed) backup)
-      → LinksJudged job cs (record { into = into; answer = v })
+      → LinksJudged job cs into v
   unfolding byLinks firstLink
   walk-done v e =
       record {
@@ -183,6 +179,6 @@ module _ (job : Job) (cs : Copies) (timed : Timed job cs) (k : ℕ) (into : List
         answer =
             e ∙ ap answered
             (ap₂ _or-else_
-            (note-seen (keepsD job cs) (links job) primary (timed .sound .links-most) (all .d) (linkRefusal job PrimaryUnfed))
-            (note-seen (keepsE job cs) (links job) backup (timed .sound .links-most) (all .e) (linkRefusal job BackupUnfed)));
+            (note-seen (keepsD job cs) (links job) primary (timed .few) (all .d) (linkRefusal job PrimaryUnfed))
+            (note-seen (keepsE job cs) (links job) backup (timed .few) (all .e) (linkRefusal job BackupUnfed)));
       }

@@ -25,12 +25,12 @@ use Rattle.copies.specs.declared.table.Copies.{Copies}
 use Rattle.copies.specs.Sets.{has, meets, everyNode}
 use Rattle.copies.specs.Table.{copyCount, nodeAt, entry, setAt, rowOf, Held}
 use Rattle.copies.specs.Chain.{Chain, Chained}
-use Rattle.copies.specs.Clash.{clashes, free, boundOf, latest}
+use Rattle.copies.specs.Clash.{clashes, free, boundOf}
 use Rattle.reader.proofs.TestLaws.{and-yes, and-join}
 use Rattle.copies.proofs.SetLaws.{has-every, meets-i, meets-any}
 use Rattle.copies.proofs.ListMore.{replicated}
 use Rattle.copies.proofs.ChainLaws.{chain-of, chain-within, chained-start, chained-pair}
-use Rattle.copies.proofs.ClashLaws.{latest-last, latest-free, clash-ends, clashes-is}
+use Rattle.copies.proofs.ClashLaws.{free-last, clash-ends, clashes-is}
 use Rattle.judge.specs.Faults.{Low}
 use Rattle.judge.specs.Overlaps.{apart, pairApart, pairBreach, clear}
 use Rattle.judge.proofs.SetMore.{union-empty}
@@ -56,9 +56,12 @@ module _ (cs : Copies) (n : ℕ) (low : Low (cs .node) n) where
 
   module _ (j found : ℕ) (before last : List ℕ) (so-far : Seen cs n j found before last) (below : j < n) where
     -- copy c, which is entry k of task j
-    module _ (k : ℕ) (p : k < 2 * n) (c : Copy) (e : c ≡ entry cs k) where
+    module _ (k : ℕ) (p : k ≤ 2 * j + 1) (c : Copy) (e : c ≡ entry cs k) where
       pub seen-node : c .node < maxNodes
-      seen-node = omega (arith, ap (λ d. d .node) e, low .on k p)
+      seen-node = omega (arith, ap (λ d. d .node) e, low .on k (omega arith))
+
+      pub seen-entry : (k < copyCount) × (c .node < maxNodes)
+      seen-entry = (omega (arith, low .few), seen-node)
 
       pub seen-chain : (getD last (c .node) 0 ≤ copyCount) × Chain (nodeAt (cs .node)) before (c .node) (getD last (c .node) 0)
       seen-chain = (
@@ -66,13 +69,13 @@ module _ (cs : Copies) (n : ℕ) (low : Low (cs .node) n) where
         chain-of _ _ _ _ last before (so-far .chained) (c .node) seen-node,
       )
 
-      end-clear : (u : ℕ) → u ≡ latest cs (setAt cs k) c (getD last (c .node) 0) → eqb u 0 ≡ free cs (setAt cs k) (entry cs k) (2 * j)
+      end-clear : (u : ℕ) → eqb u 0 ≡ free cs (setAt cs k) c (getD last (c .node) 0) → eqb u 0 ≡ free cs (setAt cs k) (entry cs k) (2 * j)
       end-clear u h =
-          ap (λ x. eqb x 0) (h ∙ ap (latest cs (setAt cs k) c) (so-far .chained .lasts (c .node) seen-node) ∙ latest-last cs (setAt cs k) c (2 * j))
-          ∙ latest-free cs (setAt cs k) c (2 * j) ∙ ap (λ d. free cs (setAt cs k) d (2 * j)) e
+          h ∙ ap (free cs (setAt cs k) c) (so-far .chained .lasts (c .node) seen-node) ∙ free-last cs (setAt cs k) c (2 * j)
+          ∙ ap (λ d. free cs (setAt cs k) d (2 * j)) e
 
     pub seen-more : (p b : Copy) (ep : p ≡ entry cs (2 * j)) (eb : b ≡ entry cs (2 * j + 1)) (u v : ℕ)
-        → u ≡ latest cs (setAt cs (2 * j)) p (getD last (p .node) 0) → v ≡ latest cs (setAt cs (2 * j + 1)) b (getD last (b .node) 0)
+        → eqb u 0 ≡ free cs (setAt cs (2 * j)) p (getD last (p .node) 0) → eqb v 0 ≡ free cs (setAt cs (2 * j + 1)) b (getD last (b .node) 0)
         → (l m h a : List ℕ)
         → ((key : ℕ → ℕ) → key (2 * j) ≡ p .node → Chained key maxNodes copyCount (2 * j) last before → Chained key maxNodes copyCount (2 * j + 1) l h)
         → ((key : ℕ → ℕ) → key (2 * j + 1) ≡ b .node → Chained key maxNodes copyCount (2 * j + 1) l h → Chained key maxNodes copyCount (2 * j + 1 + 1) m a)
@@ -160,11 +163,13 @@ module _ (job : Job) (cs : Copies) (few : nodes job ≤ maxNodes) (held : Held j
         let pi : i < tasks job = omega arith in
         ap₂ _and_
         (ap₂ (λ x y. not x and not y)
-        (meeting (2 * i) (2 * j) (omega arith) (omega arith) (rw (held .primary-set i pi, held .primary-set j low) (meets-i everyNode everyNode 0 (has-every 0 (omega arith)) (has-every 0 (omega arith)))))
+        (meeting (2 * i) (2 * j) (omega arith) (omega arith)
+        (rw (held .primary-set i pi, held .primary-set j low) (meets-i everyNode everyNode 0 (has-every 0 (omega arith)) (has-every 0 (omega arith)))))
         (meeting (2 * i + 1) (2 * j) (omega arith) (omega arith) (rw (held .primary-set j low) (meets-i _ everyNode _ (held .own i pi) (on-rack i pi)))))
         (ap₂ (λ x y. not x and not y)
         (meeting (2 * i) (2 * j + 1) (omega arith) (omega arith) (rw (held .primary-set i pi) (meets-i everyNode _ _ (on-rack j low) (held .own j low))))
-        (clashes-is _ _ _ _ (held .lasts (2 * i + 1) (omega arith)) (held .lasts (2 * j + 1) (omega arith)) ∙ ap (λ b. overlap (entry cs (2 * i + 1)) (entry cs (2 * j + 1)) and b) (share-is i j pi)))
+        (clashes-is _ _ _ _ (held .lasts (2 * i + 1) (omega arith)) (held .lasts (2 * j + 1) (omega arith))
+        ∙ ap (λ b. overlap (entry cs (2 * i + 1)) (entry cs (2 * j + 1)) and b) (share-is i j pi)))
 
   pub pairs-are : first (tasks job) (pairBreach cs (tasks job)) ≡ firstPair job Overlap (λ i j. ruleG job (rowOf cs i) (rowOf cs j))
   unfolding pairBreach firstPair _implies_

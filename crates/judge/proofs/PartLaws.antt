@@ -16,17 +16,18 @@ pub breach-parts : (job : Job) (t : ℕ → Row) → (byTasks job t or-else byLi
 unfolding breach byTasks byLinks byFaults
 breach-parts job t = simp or-else-join
 
+pub from-low : (job : Job) → Sound job → (k : ℕ) → k < links job → link job k .from < tasks job
+from-low job sound k p = omega (arith, sound .rise k p, sound .into k p)
+
 module _ (job : Job) (sound : Sound job) (f g : ℕ → Row) where
   -- tables with the same copies
-  pub links-same : ((j : ℕ) → j < tasks job → f j .primary ≡ g j .primary) → ((j : ℕ) → j < tasks job → f j .backup ≡ g j .backup) → byLinks job f ≡ byLinks job g
+  pub links-same : ((j : ℕ) → j < tasks job → f j .primary ≡ g j .primary) → ((j : ℕ) → j < tasks job → f j .backup ≡ g j .backup)
+      → byLinks job f ≡ byLinks job g
   unfolding byLinks firstLink ruleD ruleE
   links-same primary backup =
       ap₂ _or-else_
-      (first-same (links job) _ _ λ k p. rw (primary _ (from k p), primary _ (sound .into k p)))
-      (first-same (links job) _ _ λ k p. rw (primary _ (from k p), backup _ (from k p), backup _ (sound .into k p)))
-    where
-      from : (k : ℕ) → k < links job → link job k .from < tasks job
-      from k p = omega (arith, sound .rise k p, sound .into k p)
+      (first-same (links job) _ _ λ k p. rw (primary _ (from-low job sound k p), primary _ (sound .into k p)))
+      (first-same (links job) _ _ λ k p. rw (primary _ (from-low job sound k p), backup _ (from-low job sound k p), backup _ (sound .into k p)))
 
   -- tables with the same rows
   pub faults-same : ((j : ℕ) → j < tasks job → f j ≡ g j) → byFaults job f ≡ byFaults job g

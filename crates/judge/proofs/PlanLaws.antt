@@ -1,7 +1,7 @@
 -- From the passes to the judge: the table's rows are the plan's, and its answers the judge's.
 use Prim.Native.Nat.{ℕ, zero, suc, _+_, _*_, _/_, _≤_, _<_}
 use mathlib.Core.Bool.{true, false}
-use mathlib.Core.List.{List}
+use mathlib.Core.List.{List, []}
 use mathlib.Core.Option.{none}
 use mathlib.Core.Path.{_≡_, refl, sym, _∙_, ap, ap₂, subst, fun-ext}
 use native.Mathlib.Decide.{decLt}
@@ -15,9 +15,9 @@ use Rattle.reader.specs.declared.plan.Plan.{Plan}
 use Rattle.reader.specs.declared.refusal.Refusal.{Refusal}
 use Rattle.reader.specs.declared.refusal.Answer.{Answer}
 use Rattle.reader.specs.declared.refusal.Answer.the-variants.{Done, Refused}
-use Rattle.reader.specs.First.{_or-else_, any}
+use Rattle.reader.specs.First.{_or-else_}
 use Rattle.reader.specs.Limits.{maxTasks, maxStart, maxTime}
-use Rattle.reader.specs.Entries.{nodes, tasks, links, link, run}
+use Rattle.reader.specs.Entries.{nodes, tasks, links, task, link, run}
 use Rattle.reader.specs.Refusals.{answered}
 use Rattle.reader.specs.Sound.{Sound, PlanSound}
 use Rattle.reader.proofs.TestLaws.{and-i, and-l, and-r, or-l, or-r, or-e, not-e, not-i, same-test}
@@ -32,14 +32,14 @@ use Rattle.copies.specs.Sets.{has}
 use Rattle.copies.specs.Table.{table, entry, rowOf, Held}
 use Rattle.copies.proofs.TableLaws.{same-row}
 use Rattle.judge.specs.Parts.{byTasks, byLinks, byFaults}
-use Rattle.judge.specs.declared.tasks.Placed.{Placed}
-use Rattle.judge.specs.declared.links.Walked.{Walked}
-use Rattle.judge.specs.Tasks.{Copied, TasksJudged}
+use Rattle.judge.specs.Tasks.{CopyFits, Copied, TasksJudged}
 use Rattle.judge.specs.Links.{Timed, weakLink, WeakTo, LinksJudged}
 use Rattle.judge.specs.Faults.{gathered, Senders, FaultSets, Low, lossBreach}
 use Rattle.judge.specs.Overlaps.{faultBreach}
 use Rattle.judge.proofs.ScanLaws.{done-none, after, stop}
-use Rattle.judge.proofs.PartLaws.{breach-parts, links-same, faults-same}
+use Rattle.judge.proofs.PartLaws.{breach-parts, from-low, links-same, faults-same}
+use Rattle.judge.proofs.TaskLaws.{placeable}
+use Rattle.judge.proofs.LinkLaws.{isStrong}
 use Rattle.judge.proofs.OverlapLaws.{pairs-are}
 
 -- what holds at both entries of each task holds at every entry
@@ -60,9 +60,9 @@ module _ (job : Job) (plan : Plan) (sound : Sound job) (reads : PlanSound job pl
   abbrev t : ℕ → Row
   t = rows job plan
 
-  able : (j n s : ℕ) → j < tasks job → n < nodes job → 0 < run job j n → s ≤ maxStart → Able job (copy job j n s)
+  able : (j n s : ℕ) → n < nodes job → 0 < run job j n → CopyFits (task job j) n s → Able job (copy job j n s)
   unfolding copy
-  able j n s p q r b = record { on = q; lasts = omega arith; ends = omega (arith, sound .run-most j n p q) }
+  able j n s q r fits = record { on = q; lasts = omega arith; ends = fits .ends }
 
   -- a fault set has nodes of the job only
   faults-low : (n j q : ℕ) → j < n → n ≤ tasks job → t j .faults q ≡ true → q < nodes job
@@ -75,39 +75,46 @@ module _ (job : Job) (plan : Plan) (sound : Sound job) (reads : PlanSound job pl
       (λ k pk at weak hk. faults-low n (link job k .from) q (omega (arith, sound .rise k pk, at)) (omega arith) hk)
 
   -- the copies in the table
-  module _ (cs : Copies) (copied : Copied job plan (tasks job) cs) where
+  module _ (cs : Copies) (copied : Copied job plan (tasks job) (entry cs)) where
     entry-able : (k : ℕ) → k < 2 * tasks job → Able job (entry cs k)
     entry-able =
         entries (λ k. Able job (entry cs k)) (tasks job)
-        (λ j p. subst (Able job) (sym (copied .primary j p ∙ row-primary job plan (tasks job) j p)) (able j _ _ p (reads .primary-node j p) (reads .primary-able j p) (reads .primary-start j p)))
-        (λ j p. subst (Able job) (sym (copied .backup j p ∙ row-backup job plan (tasks job) j p)) (able j _ _ p (reads .backup-node j p) (reads .backup-able j p) (reads .backup-start j p)))
+        (λ j p. subst (Able job) (sym (copied .primary j p ∙ row-primary job plan (tasks job) j p))
+        (able j _ _ (reads .primary-node j p) (reads .primary-able j p) (placeable job plan sound reads .primary j p)))
+        (λ j p. subst (Able job) (sym (copied .backup j p ∙ row-backup job plan (tasks job) j p))
+        (able j _ _ (reads .backup-node j p) (reads .backup-able j p) (placeable job plan sound reads .backup j p)))
 
-    pub timed : Timed job cs
-    timed = record { sound = sound; ends = λ k p. entry-able k p .ends }
+    pub timed : Timed (job .links) (links job) cs
+    timed =
+        record {
+          few = sound .links-most;
+          from = λ k p. omega (arith, from-low job sound k p, sound .tasks-most);
+          to = λ k p. omega (arith, sound .into k p, sound .tasks-most);
+          primary = λ k p. omega (arith, entry-able (2 * link job k .from) (omega (arith, from-low job sound k p)) .ends, sound .delay-most k p);
+          backup = λ k p. omega (arith, entry-able (2 * link job k .from + 1) (omega (arith, from-low job sound k p)) .ends, sound .delay-most k p);
+        }
 
     links-are : byLinks job (rowOf cs) ≡ byLinks job t
     unfolding rowOf
     links-are = links-same job sound (rowOf cs) t (copied .primary) (copied .backup)
 
     -- weak links by the table are those by the rows
-    strong-same : (k : ℕ) → k < links job
-        → strong job (link job k) (rowOf cs (link job k .from)) (rowOf cs (link job k .to) .primary) ≡ strong job (link job k) (t (link job k .from)) (t (link job k .to) .primary)
+    strong-same : (k : ℕ) → k < links job → isStrong job (rowOf cs) k ≡ isStrong job t k
     unfolding strong rowOf
     strong-same k p =
-        ap₂ (inTime job (link job k)) (copied .backup _ (omega (arith, sound .rise k p, sound .into k p))) (copied .primary _ (sound .into k p))
+        ap₂ (inTime job (link job k)) (copied .backup _ (from-low job sound k p)) (copied .primary _ (sound .into k p))
 
     module _ (into : List ℕ) (weak : WeakTo job (rowOf cs) (links job) into) where
       -- a weak link, from the bits and to them
       weak-e : (j i : ℕ) → j < tasks job → has (getD into j 0) i ≡ true
-          → {C : Type 0} → ((k : ℕ) → k < links job → link job k .from ≡ i → link job k .to ≡ j → strong job (link job k) (t (link job k .from)) (t (link job k .to) .primary) ≡ false → C) → C
+          → {C : Type 0} → ((k : ℕ) → k < links job → link job k .from ≡ i → link job k .to ≡ j → isStrong job t k ≡ false → C) → C
       unfolding weakLink
       weak-e j i p h go =
           any-e (links job) _ (sym (weak j i (omega (arith, sound .tasks-most))) ∙ h) λ k pk e.
           go k pk (eqb-true (link job k .from) i (and-l _ _ e)) (eqb-true (link job k .to) j (and-l _ _ (and-r _ _ e)))
           (sym (strong-same k pk) ∙ not-e _ (and-r _ _ (and-r _ _ e)))
 
-      weak-i : (k : ℕ) → k < links job → strong job (link job k) (t (link job k .from)) (t (link job k .to) .primary) ≡ false
-          → has (getD into (link job k .to) 0) (link job k .from) ≡ true
+      weak-i : (k : ℕ) → k < links job → isStrong job t k ≡ false → has (getD into (link job k .to) 0) (link job k .from) ≡ true
       unfolding weakLink
       weak-i k p h =
           weak _ _ (omega (arith, sound .into k p, sound .tasks-most))
@@ -122,7 +129,7 @@ module _ (job : Job) (plan : Plan) (sound : Sound job) (reads : PlanSound job pl
           }
 
       -- the sets
-      module _ (sets : List ℕ) (filled : FaultSets (cs .node) into (tasks job) sets) where
+      module _ (sets : List ℕ) (filled : FaultSets (cs .node) into (tasks job) (tasks job) sets) where
         abbrev final : Copies
         final = table (cs .node) (cs .start) (cs .finish) sets
 
@@ -144,7 +151,8 @@ module _ (job : Job) (plan : Plan) (sound : Sound job) (reads : PlanSound job pl
             (λ e. or-l _ _ (eq-eqb (getD (cs .node) (2 * j) 0) q (own ∙ e)))
             (λ k pk to w s. or-r _ _ (any-i maxTasks _ (link job k .from) (omega (arith, sound .rise k pk, sound .into k pk, sound .tasks-most))
             (and-i _ _
-            (subst (λ m. has (getD into m 0) (link job k .from) ≡ true) to (weak-i k pk (subst (λ m. strong job (link job k) (t (link job k .from)) (t m .primary) ≡ false) (sym to) w)))
+            (subst (λ m. has (getD into m 0) (link job k .from) ≡ true) to
+            (weak-i k pk (subst (λ m. strong job (link job k) (t (link job k .from)) (t m .primary) ≡ false) (sym to) w)))
             (faults-are n (link job k .from) q (omega (arith, sound .rise k pk, to)) (omega arith) ∙ s)))))
             ∙ sym (ap (λ f. f q) (rows-faults job sound plan j low))
 
@@ -169,13 +177,6 @@ module _ (job : Job) (plan : Plan) (sound : Sound job) (reads : PlanSound job pl
               within = λ i q p h. faults-low (tasks job) i q p (omega arith) (sym (faults-at i q p) ∙ h);
             }
 
-        pub low : Low (cs .node) (tasks job)
-        low =
-            record {
-              few = sound .tasks-most;
-              on = λ k p. omega (arith, entry-able k p .on, sound .nodes-most);
-            }
-
         breach-is : faultBreach final (tasks job) ≡ byFaults job (rowOf final)
         unfolding faultBreach lossBreach byFaults firstTask ruleF rowOf domain
         breach-is = ap (λ o. lossBreach (cs .node) sets (tasks job) or-else o) (pairs-are job final (sound .nodes-most) held)
@@ -184,27 +185,46 @@ module _ (job : Job) (plan : Plan) (sound : Sound job) (reads : PlanSound job pl
         faults-are-judged = breach-is ∙ faults-same job sound (rowOf final) t rows-are
 
 -- the answer of each part where the parts before it found nothing
-module _ (job : Job) (plan : Plan) (sound : Sound job) (reads : PlanSound job plan) (p : Placed) (placed : TasksJudged job plan p) where
-  parts : (v : Answer) → v ≡ answered (byTasks job (rows job plan) or-else byLinks job (rows job plan) or-else byFaults job (rows job plan)) → v ≡ judge job plan
+module _ (job : Job) (plan : Plan) (sound : Sound job) (reads : PlanSound job plan) (cs : Copies) (v : Answer) (placed : TasksJudged job plan cs v) where
+  parts : (u : Answer) → u ≡ answered (byTasks job (rows job plan) or-else byLinks job (rows job plan) or-else byFaults job (rows job plan))
+      → u ≡ judge job plan
   unfolding judge
-  parts v e = e ∙ ap answered (breach-parts job (rows job plan))
+  parts u e = e ∙ ap answered (breach-parts job (rows job plan))
 
-  pub tasks-refused : (r : Refusal) → p .answer ≡ Refused r → p .answer ≡ judge job plan
+  pub tasks-refused : (r : Refusal) → v ≡ Refused r → v ≡ judge job plan
   tasks-refused r e = parts _ (stop _ _ _ r (placed .answer) e)
 
-  module _ (done : p .answer ≡ Done) (w : Walked) (walked : LinksJudged job (p .copies) w) where
-    no-task : byTasks job (rows job plan) ≡ none
-    no-task = done-none _ _ (placed .answer) done
+  pub low : Low (cs .node) (tasks job)
+  low =
+      let able = entry-able job plan sound reads cs (placed .tabled .copied) in
+      record { few = sound .tasks-most; on = λ k p. omega (arith, able k p .on, sound .nodes-most) }
 
-    links-answer : w .answer ≡ answered (byLinks job (rows job plan))
-    links-answer = walked .answer ∙ ap answered (links-are job plan sound reads (p .copies) (placed .copied))
+  -- the copies without their sets
+  abbrev bare : Copies
+  bare = table (cs .node) (cs .start) (cs .finish) []
 
-    pub links-refused : (r : Refusal) → w .answer ≡ Refused r → w .answer ≡ judge job plan
-    links-refused r e = parts _ (stop _ _ _ r links-answer e ∙ after _ _ no-task)
+  module _ (into : List ℕ) (w : Answer) (walked : LinksJudged job bare into w) where
+    -- the table before the first fault set
+    pub fillable : Senders (cs .node) into (tasks job) × FaultSets (cs .node) into (tasks job) 0 (cs .set)
+    fillable =
+        let it = placed .tabled in (
+          senders job plan sound reads bare (it .copied) into (walked .weak),
+          record { within = omega arith; size = it .whole .set; primary = it .primary-set; backup = λ i q p. absurd (not-suc-le-zero p) },
+        )
 
-    pub faults-answered : w .answer ≡ Done → (sets : List ℕ) → FaultSets (p .copies .node) (w .into) (tasks job) sets
-        → (v : Answer) → v ≡ answered (faultBreach (table (p .copies .node) (p .copies .start) (p .copies .finish) sets) (tasks job)) → v ≡ judge job plan
-    faults-answered d sets filled v e =
-        parts v
-        (e ∙ ap answered (faults-are-judged job plan sound reads (p .copies) (placed .copied) (w .into) (walked .weak) sets filled)
-        ∙ after _ _ (done-none _ _ links-answer d) ∙ after _ _ no-task)
+    module _ (done : v ≡ Done) where
+      no-task : byTasks job (rows job plan) ≡ none
+      no-task = done-none _ _ (placed .answer) done
+
+      links-answer : w ≡ answered (byLinks job (rows job plan))
+      links-answer = walked .answer ∙ ap answered (links-are job plan sound reads bare (placed .tabled .copied))
+
+      pub links-refused : (r : Refusal) → w ≡ Refused r → w ≡ judge job plan
+      links-refused r e = parts _ (stop _ _ _ r links-answer e ∙ after _ _ no-task)
+
+      pub faults-answered : w ≡ Done → (sets : List ℕ) → FaultSets (cs .node) into (tasks job) (tasks job) sets
+          → (u : Answer) → u ≡ answered (faultBreach (table (cs .node) (cs .start) (cs .finish) sets) (tasks job)) → u ≡ judge job plan
+      faults-answered d sets filled u e =
+          parts u
+          (e ∙ ap answered (faults-are-judged job plan sound reads bare (placed .tabled .copied) into (walked .weak) sets filled)
+          ∙ after _ _ (done-none _ _ links-answer d) ∙ after _ _ no-task)

@@ -5,13 +5,14 @@ use mathlib.Core.List.{List}
 use mathlib.Core.Option.{Option}
 use mathlib.Core.Path.{_≡_}
 use lib.Dec.{eqb}
-use lib.ListN.{getD}
+use lib.ListN.{getD, length}
 use Rattle.reader.specs.declared.refusal.Refusal.{Refusal}
 use Rattle.reader.specs.declared.refusal.Refusal.the-variants.{CommonLoss}
 use Rattle.reader.specs.Tests.{_and_, _or_}
 use Rattle.reader.specs.First.{first, unless, any}
 use Rattle.reader.specs.Limits.{maxNodes, maxTasks}
 use Rattle.copies.specs.Sets.{has, everyNode}
+use Rattle.copies.specs.Table.{copyCount}
 
 -- q is in the set of a task on node own, to which weak links lead from the members of weak
 unfoldable pub gathered : ℕ → ℕ → List ℕ → ℕ → Bool
@@ -23,10 +24,12 @@ pub record Senders (node into : List ℕ) (n : ℕ) : Type 0 where
   pub on : (j : ℕ) → j < n → getD node (2 * j) 0 < maxNodes
   pub earlier : (j i : ℕ) → j < n → has (getD into j 0) i ≡ true → i < j
 
--- a primary's set is every node, a backup's is what its task gathers from the sets themselves
-pub record FaultSets (node into : List ℕ) (n : ℕ) (r : List ℕ) : Type 0 where
-  pub primary : (j : ℕ) → j < n → getD r (2 * j) 0 ≡ everyNode
-  pub backup : (j q : ℕ) → j < n → has (getD r (2 * j + 1) 0) q ≡ gathered (getD node (2 * j) 0) (getD into j 0) r q
+-- a primary's set is every node; of the first j tasks a backup's is what its task gathers from the sets themselves
+pub record FaultSets (node into : List ℕ) (n j : ℕ) (sets : List ℕ) : Type 0 where
+  pub within : j ≤ n
+  pub size : length sets ≡ copyCount
+  pub primary : (i : ℕ) → i < n → getD sets (2 * i) 0 ≡ everyNode
+  pub backup : (i q : ℕ) → i < j → has (getD sets (2 * i + 1) 0) q ≡ gathered (getD node (2 * i) 0) (getD into i 0) sets q
 
 -- what F and G rest on
 pub record Low (node : List ℕ) (n : ℕ) : Type 0 where

@@ -6,23 +6,32 @@ use mathlib.Core.Path.{_≡_}
 use lib.Dec.{eqb}
 use lib.ListN.{getD}
 use Rattle.reader.specs.declared.job.Job.{Job}
+use Rattle.reader.specs.declared.job.Link.{Link}
+use Rattle.reader.specs.declared.refusal.Answer.{Answer}
 use Rattle.reader.specs.Tests.{_and_}
 use Rattle.reader.specs.First.{any}
-use Rattle.reader.specs.Limits.{maxTasks, maxStart, maxTime}
-use Rattle.reader.specs.Entries.{tasks, links, link}
+use Rattle.reader.specs.Limits.{maxTasks, maxLinks}
+use Rattle.reader.specs.Entries.{nodes, tasks, links, link, noLink}
 use Rattle.reader.specs.Refusals.{answered}
-use Rattle.reader.specs.Sound.{Sound}
 use Rattle.rules.specs.Rules.{Row, strong}
 use Rattle.copies.specs.declared.table.Copies.{Copies}
 use Rattle.copies.specs.Sets.{has}
+use Rattle.copies.specs.Arrival.{SumFits}
 use Rattle.copies.specs.Table.{entry, rowOf}
-use Rattle.judge.specs.declared.links.Walked.{Walked}
 use Rattle.judge.specs.Parts.{byLinks}
 
--- what the pass rests on
-pub record Timed (job : Job) (cs : Copies) : Type 0 where
-  pub sound : Sound job
-  pub ends : (k : ℕ) → k < 2 * tasks job → entry cs k .finish ≤ maxStart + maxTime
+-- a job with the first n of these links
+abbrev pub linked : Job → List Link → ℕ → Job
+linked job ls n =
+    record { version = job .version; «node_count» = nodes job; nodes = job .nodes; «task_count» = tasks job; tasks = job .tasks; «link_count» = n; links = ls }
+
+-- what the pass over the first n links rests on: each leads from task to task, and its delay can be added to the sender's finishes
+pub record Timed (list : List Link) (n : ℕ) (cs : Copies) : Type 0 where
+  pub few : n ≤ maxLinks
+  pub from : (k : ℕ) → k < n → getD list k noLink .from < maxTasks
+  pub to : (k : ℕ) → k < n → getD list k noLink .to < maxTasks
+  pub primary : (k : ℕ) → k < n → SumFits (entry cs (2 * getD list k noLink .from) .finish) (getD list k noLink .delay)
+  pub backup : (k : ℕ) → k < n → SumFits (entry cs (2 * getD list k noLink .from + 1) .finish) (getD list k noLink .delay)
 
 -- link k is a weak link from i to j
 unfoldable pub weakLink : Job → (ℕ → Row) → ℕ → ℕ → ℕ → Bool
@@ -34,6 +43,7 @@ weakLink job t i j k =
 abbrev pub WeakTo : Job → (ℕ → Row) → ℕ → List ℕ → Type 0
 WeakTo job t k into = (j i : ℕ) → j < maxTasks → has (getD into j 0) i ≡ any k (weakLink job t i j)
 
-pub record LinksJudged (job : Job) (cs : Copies) (r : Walked) : Type 0 where
-  pub weak : WeakTo job (rowOf cs) (links job) (r .into)
-  pub answer : r .answer ≡ answered (byLinks job (rowOf cs))
+-- the weak links of all, and the answer of D and E
+pub record LinksJudged (job : Job) (cs : Copies) (into : List ℕ) (r : Answer) : Type 0 where
+  pub weak : WeakTo job (rowOf cs) (links job) into
+  pub answer : r ≡ answered (byLinks job (rowOf cs))

@@ -1,5 +1,4 @@
 // Fault sets, task by task in the order of the receiving task, and rule F.
-use copies::sets::ALL;
 use copies::sets::bit_of_node;
 use copies::sets::bit_of_task;
 use copies::sets::holds_node;
@@ -28,21 +27,22 @@ fn gather(own: u32, weak: u64, sets: &[u32; Copies::COUNT]) -> u32
     set
 }
 
+// The backups' sets of the first n tasks; the primaries' stay.
 pub fn fault_sets<'c, 'w>(
     node: &'c [u32; Copies::COUNT],
     into: &'w [u64; Job::MAX_TASKS],
     n: usize,
-) -> [u32; Copies::COUNT]
-    requires { ⌜ Senders (now node) (now into) n ⌝ }
-    ensures { λ r. ⌜ FaultSets (now (node .entry)) (now (into .entry)) n r ⌝ }
+    sets: &mut [u32; Copies::COUNT],
+)
+    requires { ⌜ Senders (now node) (now into) n × FaultSets (now node) (now into) n 0 (now sets) ⌝ }
+    ensures { λ _. ⌜ FaultSets (now (node .entry)) (now (into .entry)) n n (now (sets .exit)) ⌝ }
 {
-    let mut sets = [ALL; Copies::COUNT];
     let mut j: usize = 0;
     while j < n {
-        sets[2 * j + 1] = gather(node[2 * j], into[j], &sets);
+        let k = 2 * j;
+        sets[k + 1] = gather(node[k], into[j], sets);
         j += 1;
     }
-    sets
 }
 
 // F. The backup's node is not in the fault set.

@@ -1,5 +1,4 @@
 // The judge: the rules of a plan, A to G in turn.
-pub mod entry;
 pub mod faults;
 pub mod links;
 pub mod note;
@@ -19,19 +18,26 @@ ghost use mathlib.Core.Path.{_≡_};
 ghost use Rattle.reader.specs.Refusals.{answered};
 ghost use Rattle.reader.specs.Sound.{Sound, PlanSound};
 ghost use Rattle.rules.specs.Judge.{judge};
+ghost use Rattle.copies.specs.Table.{table};
 ghost use Rattle.judge.specs.Overlaps.{faultBreach};
 ghost use Rattle.judge.specs.Faults.{Low};
 
 // F and G, over the table of the first n tasks.
-fn judge_faults(copies: Copies, n: usize) -> Answer
-    requires { ⌜ Low (copies .node) n ⌝ }
-    ensures { λ r. ⌜ r ≡ answered (faultBreach copies n) ⌝ }
+fn judge_faults<'c>(
+    node: &'c [u32; Copies::COUNT],
+    start: &'c [u32; Copies::COUNT],
+    finish: &'c [u32; Copies::COUNT],
+    sets: &'c [u32; Copies::COUNT],
+    n: usize,
+) -> Answer
+    requires { ⌜ Low (now node) n ⌝ }
+    ensures { λ r. ⌜ r ≡ answered (faultBreach (table (now (node .entry)) (now (start .entry)) (now (finish .entry)) (now (sets .entry))) n) ⌝ }
 {
-    let f = common_loss(&copies.node, &copies.set, n);
+    let f = common_loss(node, sets, n);
     let Answer::Done = f else {
         return f;
     };
-    overlapping(&copies.node, &copies.start, &copies.finish, &copies.set, n)
+    overlapping(node, start, finish, sets, n)
 }
 
 // Tasks, links, then what fault sets decide: each part needs the one before it.
@@ -39,19 +45,33 @@ pub fn judge_plan(job: Job, plan: Plan) -> Answer
     requires { ⌜ Sound job × PlanSound job plan ⌝ }
     ensures { λ r. ⌜ r ≡ judge job plan ⌝ }
 {
-    let placed = place_copies(job, plan);
-    let by_tasks = placed.answer;
+    let mut node = [0u32; Copies::COUNT];
+    let mut start = [0u32; Copies::COUNT];
+    let mut finish = [0u32; Copies::COUNT];
+    let mut sets = [0u32; Copies::COUNT];
+    let tasks = job.tasks;
+    let nodes = job.nodes;
+    let n = job.task_count as usize;
+    let by_tasks = place_copies(
+        tasks,
+        nodes,
+        n,
+        plan,
+        &mut node,
+        &mut start,
+        &mut finish,
+        &mut sets,
+    );
     let Answer::Done = by_tasks else {
         return by_tasks;
     };
-    let mut copies = placed.copies;
-    let walked = walk_links(job, copies);
-    let by_links = walked.answer;
+    let mut into = [0u64; Job::MAX_TASKS];
+    let links = job.links;
+    let m = job.link_count as usize;
+    let by_links = walk_links(links, m, &node, &start, &finish, &mut into);
     let Answer::Done = by_links else {
         return by_links;
     };
-    let n = job.task_count as usize;
-    let sets = fault_sets(&copies.node, &walked.into, n);
-    copies.set = sets;
-    judge_faults(copies, n)
+    fault_sets(&node, &into, n, &mut sets);
+    judge_faults(&node, &start, &finish, &sets, n)
 }

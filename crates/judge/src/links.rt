@@ -1,24 +1,24 @@
 // One pass over the links: the weak ones, and the first that breaks D or E.
-use crate::entry::copy_at;
 use crate::note::NONE;
 use crate::note::noted;
 use copies::arrival::arrives;
 use copies::table::Copies;
+use copies::table::copy_at;
 use reader::job::Job;
+use reader::job::Link;
 use reader::refusal::Answer;
 use reader::refusal::Refusal;
 use rules::Copy;
 ghost use mathlib.Core.Path.{_≡_};
 ghost use Prim.Native.Nat.{_<_, _^_};
 ghost use mathlib.Core.Bool.{cond};
+ghost use mathlib.Core.List.{[]};
+ghost use lib.ListN.{replicate};
+ghost use Rattle.reader.specs.declared.job.Job.{Job};
+ghost use Rattle.reader.specs.Limits.{maxTasks};
 ghost use Rattle.copies.specs.Arrival.{SumFits, inTimeOf};
-ghost use Rattle.judge.specs.Links.{Timed, LinksJudged};
-
-// For each task the tasks from which weak links lead to it, as bits; and the first refusal.
-pub struct Walked {
-    pub into: [u64; Job::MAX_TASKS],
-    pub answer: Answer,
-}
+ghost use Rattle.copies.specs.Table.{table};
+ghost use Rattle.judge.specs.Links.{linked, Timed, LinksJudged};
 
 fn in_time(delay: u32, c: Copy, d: Copy) -> bool
     requires { ⌜ SumFits (c .finish) delay ⌝ }
@@ -41,23 +41,38 @@ fn weak_bit(strong: bool, i: usize) -> u64
     one_unless(strong) << i
 }
 
-pub fn walk_links(job: Job, copies: Copies) -> Walked
-    requires { ⌜ Timed job copies ⌝ }
-    ensures { λ r. ⌜ LinksJudged job copies r ⌝ }
+// The number of a task as an index: in range for what it indexes.
+fn index(task: u32) -> usize
+    requires { ⌜ task < maxTasks ⌝ }
+    ensures { λ r. ⌜ (r ≡ task) × (r < maxTasks) ⌝ }
 {
-    let mut into = [0u64; Job::MAX_TASKS];
+    task as usize
+}
+
+// `into` has for each task, as bits, the tasks from which weak links lead to it.
+pub fn walk_links<'c>(
+    links: [Link; Job::MAX_LINKS],
+    n: usize,
+    node: &'c [u32; Copies::COUNT],
+    start: &'c [u32; Copies::COUNT],
+    finish: &'c [u32; Copies::COUNT],
+    into: &mut [u64; Job::MAX_TASKS],
+) -> Answer
+    requires { ⌜ Timed links n (table (now node) (now start) (now finish) []) × (now into ≡ replicate maxTasks 0) ⌝ }
+    ensures { λ r. ⌜ ((job : Job)
+        → LinksJudged (linked job links n) (table (now (node .entry)) (now (start .entry)) (now (finish .entry)) []) (now (into .exit)) r) ⌝ }
+{
     let mut primary = NONE;
     let mut backup = NONE;
-    let n = job.link_count as usize;
     let mut k: usize = 0;
     while k < n {
-        let l = job.links[k];
-        let i = l.from as usize;
-        let j = l.to as usize;
-        let p = copy_at(&copies.node, &copies.start, &copies.finish, 2 * i);
-        let b = copy_at(&copies.node, &copies.start, &copies.finish, 2 * i + 1);
-        let q = copy_at(&copies.node, &copies.start, &copies.finish, 2 * j);
-        let c = copy_at(&copies.node, &copies.start, &copies.finish, 2 * j + 1);
+        let l = links[k];
+        let i = index(l.from);
+        let j = index(l.to);
+        let p = copy_at(node, start, finish, 2 * i);
+        let b = copy_at(node, start, finish, 2 * i + 1);
+        let q = copy_at(node, start, finish, 2 * j);
+        let c = copy_at(node, start, finish, 2 * j + 1);
         primary = noted(primary, k, in_time(l.delay, p, q));
         backup = noted(backup, k, in_time(l.delay, p, c));
         backup = noted(backup, k, in_time(l.delay, b, c));
@@ -65,17 +80,12 @@ pub fn walk_links(job: Job, copies: Copies) -> Walked
         k += 1;
     }
     if primary != NONE {
-        let l = job.links[primary];
-        let answer = Answer::Refused(Refusal::PrimaryUnfed(l.from as usize, l.to as usize));
-        return Walked { into, answer };
+        let l = links[primary];
+        return Answer::Refused(Refusal::PrimaryUnfed(l.from as usize, l.to as usize));
     }
     if backup != NONE {
-        let l = job.links[backup];
-        let answer = Answer::Refused(Refusal::BackupUnfed(l.from as usize, l.to as usize));
-        return Walked { into, answer };
+        let l = links[backup];
+        return Answer::Refused(Refusal::BackupUnfed(l.from as usize, l.to as usize));
     }
-    Walked {
-        into,
-        answer: Answer::Done,
-    }
+    Answer::Done
 }

@@ -1,9 +1,9 @@
 // Rule G: whether any copies clash, and the first pair of tasks of which they do.
-use crate::entry::copy_at;
 use copies::chain::join;
 use copies::clash::bound;
-use copies::clash::clash_end;
+use copies::clash::clash_at;
 use copies::table::Copies;
+use copies::table::copy_at;
 use reader::job::Job;
 use reader::refusal::Answer;
 use reader::refusal::Refusal;
@@ -38,8 +38,8 @@ fn clash_found<'c>(
         let b = copy_at(node, start, finish, k + 1);
         let x = p.node as usize;
         let y = b.node as usize;
-        let u = clash_end(node, start, finish, sets, &before, last[x], p, sets[k]);
-        let v = clash_end(node, start, finish, sets, &before, last[y], b, sets[k + 1]);
+        let u = clash_at(node, start, finish, sets, &before, last[x], p, sets[k]);
+        let v = clash_at(node, start, finish, sets, &before, last[y], b, sets[k + 1]);
         found = found | u | v;
         join(&mut before, &mut last, k, p.node);
         join(&mut before, &mut last, k + 1, b.node);

@@ -1,29 +1,30 @@
 // One pass over the tasks: the table of copies, and the first task that breaks A, B or C.
 use crate::note::NONE;
 use crate::note::noted;
+use copies::sets::ALL;
 use copies::table::Copies;
+use copies::table::put;
 use reader::job::Job;
+use reader::job::Node;
 use reader::job::Task;
 use reader::plan::Plan;
 use reader::refusal::Answer;
 use reader::refusal::Refusal;
 use rules::Copy;
 ghost use mathlib.Core.Path.{_≡_};
+ghost use Prim.Native.Nat.{_<_};
+ghost use Rattle.reader.specs.declared.job.Job.{Job};
 ghost use Rattle.reader.specs.declared.refusal.Refusal.the-variants.{SameNode, Early, Late};
 ghost use Rattle.reader.specs.First.{_or-else_};
+ghost use Rattle.reader.specs.Limits.{maxNodes};
 ghost use Rattle.reader.specs.Refusals.{answered};
-ghost use Rattle.reader.specs.Sound.{Sound, PlanSound};
+ghost use Rattle.copies.specs.Table.{table, Whole};
 ghost use Rattle.judge.specs.Notes.{seen};
-ghost use Rattle.judge.specs.Tasks.{CopyFits, copyOn, TasksJudged};
-
-pub struct Placed {
-    pub copies: Copies,
-    pub answer: Answer,
-}
+ghost use Rattle.judge.specs.Tasks.{CopyFits, copyOn, tasked, Placeable, TasksJudged};
 
 fn copy_of(task: Task, node: u32, start: u32) -> Copy
     requires { ⌜ CopyFits task node start ⌝ }
-    ensures { λ r. ⌜ r ≡ copyOn task node start ⌝ }
+    ensures { λ r. ⌜ (r ≡ copyOn task node start) × (r .node < maxNodes) ⌝ }
 {
     let n = node as usize;
     Copy {
@@ -49,35 +50,39 @@ fn task_answer(same: usize, early: usize, late: usize) -> Answer
     Answer::Done
 }
 
-pub fn place_copies(job: Job, plan: Plan) -> Placed
-    requires { ⌜ Sound job × PlanSound job plan ⌝ }
-    ensures { λ r. ⌜ TasksJudged job plan r ⌝ }
+// The caller's arrays are filled where they lie: as a result they would be copied. Fault sets come later.
+pub fn place_copies(
+    tasks: [Task; Job::MAX_TASKS],
+    nodes: [Node; Job::MAX_NODES],
+    n: usize,
+    plan: Plan,
+    node: &mut [u32; Copies::COUNT],
+    start: &mut [u32; Copies::COUNT],
+    finish: &mut [u32; Copies::COUNT],
+    sets: &mut [u32; Copies::COUNT],
+) -> Answer
+    requires { ⌜ Placeable tasks nodes n plan × Whole (table (now node) (now start) (now finish) (now sets)) ⌝ }
+    ensures { λ r. ⌜ ((job : Job)
+        → TasksJudged (tasked job tasks nodes n) plan (table (now (node .exit)) (now (start .exit)) (now (finish .exit)) (now (sets .exit))) r) ⌝ }
 {
-    let mut copies = Copies::empty();
     let mut same = NONE;
     let mut early = NONE;
     let mut late = NONE;
-    let n = job.task_count as usize;
     let mut j: usize = 0;
     while j < n {
         let x = plan.places[j];
-        let task = job.tasks[j];
+        let task = tasks[j];
         let p = copy_of(task, x.primary_node, x.primary_start);
         let b = copy_of(task, x.backup_node, x.backup_start);
-        let q = x.primary_node as usize;
-        let node = job.nodes[q];
+        let q = p.node as usize;
+        let own = nodes[q];
         same = noted(same, j, p.node != b.node);
-        early = noted(early, j, p.finish + node.detect <= b.start);
+        early = noted(early, j, p.finish + own.detect <= b.start);
         late = noted(late, j, b.finish <= task.deadline);
         let k = 2 * j;
-        copies.node[k] = p.node;
-        copies.start[k] = p.start;
-        copies.finish[k] = p.finish;
-        copies.node[k + 1] = b.node;
-        copies.start[k + 1] = b.start;
-        copies.finish[k + 1] = b.finish;
+        put(node, start, finish, sets, k, p, ALL);
+        put(node, start, finish, sets, k + 1, b, ALL);
         j += 1;
     }
-    let answer = task_answer(same, early, late);
-    Placed { copies, answer }
+    task_answer(same, early, late)
 }

@@ -101,7 +101,8 @@ module _ (d : ℕ) where
     place-below =
         split (leb (best .finish) d)
         (λ e. ap (λ o. finishBelow o d) (sym (some-when _ best e)))
-        (λ e. let late = leb-false (best .finish) d e in let is : best .finish ≡ d + 1 = omega arith in is ∙ ap (λ o. finishBelow o d) (sym (none-when _ best e)))
+        (λ e. let late = leb-false (best .finish) d e in let is : best .finish ≡ d + 1 = omega arith in
+        is ∙ ap (λ o. finishBelow o d) (sym (none-when _ best e)))
 
     module _ (n s run : ℕ) where
       sooner-most : soonerOf best n s run .finish ≤ d + 1
@@ -187,8 +188,9 @@ module _ (cs : Copies) (before last : List ℕ) (search : Search) where
           (ap (λ c. placeBy c (search .task .deadline)) h ∙ sooner-is _ best (so-far .most) n s run)
 
 -- the last node is behind
-pub best-found : (cs : Copies) (before last : List ℕ) (search : Search) (n : ℕ) (best : Copy) (o : Option Copy) → Best cs before last search n best → search .nodes ≤ n
-    → o ≡ placeBy best (search .task .deadline) → o ≡ bestOf (search .task .run) (suc (search .task .deadline)) (fits cs last search) (search .nodes)
+pub best-found : (cs : Copies) (before last : List ℕ) (search : Search) (n : ℕ) (best : Copy) (o : Option Copy) → Best cs before last search n best
+    → search .nodes ≤ n → o ≡ placeBy best (search .task .deadline)
+    → o ≡ bestOf (search .task .run) (suc (search .task .deadline)) (fits cs last search) (search .nodes)
 best-found cs before last search n best o h p e = e ∙ best-done _ _ _ n (search .nodes) _ (omega (arith, h .within)) (h .is)
 
 pub start-at : (r : Ready) (n least ready from : ℕ) → ready ≡ readyOn r n → from ≡ max ready least → from ≡ max (readyOn r n) least

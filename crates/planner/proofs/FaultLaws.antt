@@ -1,42 +1,34 @@
 -- The fault set as bits, link by link along the chain of a task's links.
-use Prim.Native.Nat.{ℕ, _+_, _-_, _*_, _^_}
-use mathlib.Core.Bool.{Bool, true, false, not}
+use Prim.Native.Nat.{ℕ, _^_}
+use mathlib.Core.Bool.{Bool, true, false, cond}
 use mathlib.Core.List.{List}
 use mathlib.Core.Path.{_≡_, refl, sym, _∙_, ap}
 use lib.Bits.{bitOr}
 use lib.Dec.{eqb}
-use lib.ListN.{getD}
 use Rattle.reader.specs.Tests.{_and_, _or_}
-use Rattle.reader.specs.First.{any}
-use Rattle.reader.proofs.TestLaws.{or-none, or-join}
+use Rattle.reader.proofs.TestLaws.{split, or-none, or-join}
 use Rattle.reader.proofs.FirstLaws.{any-start}
 use Rattle.rules.specs.declared.Copy.{Copy}
+use Rattle.copies.specs.declared.table.Copies.{Copies}
 use Rattle.copies.specs.Sets.{has}
-use Rattle.copies.specs.Arrival.{inTimeOf}
 use Rattle.copies.specs.Chain.{Chain}
 use Rattle.copies.proofs.SetLaws.{has-none, has-one, has-union}
+use Rattle.planner.specs.declared.senders.Sender.{Sender}
 use Rattle.planner.specs.Senders.{Sending}
-use Rattle.planner.specs.Faults.{carriedOf, carriesTo, Faulted}
-use Rattle.planner.proofs.SenderLaws.{any-asked, Walk, walk-start, walk-tip, walk-chain, walk-next}
+use Rattle.planner.specs.Inputs.{comes}
+use Rattle.planner.specs.Faults.{carriedOf, carriesFrom, carriedTo, Faulted}
+use Rattle.planner.proofs.SenderLaws.{Walk, walk-start, Next}
 
 -- what one link carries
-module _ (delay from finish set own start : ℕ) where
-  pub carried-strong : inTimeOf delay from finish own start ≡ true → 0 ≡ carriedOf delay from finish set own start
+module _ (x : Sender) (p : Copy) where
+  pub carried-is : (strong : Bool) (r : ℕ) → strong ≡ comes (x .delay) (x .backup) p → r ≡ cond strong 0 (x .set) → r ≡ carriedOf x p
   unfolding carriedOf
-  carried-strong h = rw h
-
-  pub carried-weak : inTimeOf delay from finish own start ≡ false → set ≡ carriedOf delay from finish set own start
-  unfolding carriedOf
-  carried-weak h = rw h
+  carried-is strong r e h = h ∙ rw e
 
   -- q is carried exactly if the link is weak and q is in the sender's set
-  has-carried : (q : ℕ) → has (carriedOf delay from finish set own start) q ≡ (not (inTimeOf delay from finish own start) and has set q)
+  has-carried : (q : ℕ) → has (carriedOf x p) q ≡ carriesFrom p q x
   unfolding carriedOf _and_
-  has-carried q = by (inTimeOf delay from finish own start) refl
-    where
-      by : (b : Bool) → inTimeOf delay from finish own start ≡ b → has (carriedOf delay from finish set own start) q ≡ (not (inTimeOf delay from finish own start) and has set q)
-      by true e = rw e (has-none q)
-      by false e = rw e
+  has-carried q = split (comes (x .delay) (x .backup) p) (λ e. rw e (has-none q)) (λ e. rw e)
 
 or-swap : (a b : Bool) → (a or b) ≡ (b or a)
 unfolding _or_
@@ -46,41 +38,37 @@ or-swap false true = refl
 or-swap false false = refl
 
 -- along the chains that begin at `last`
-module _ (before from delay node finish sets : List ℕ) (last : ℕ) (p : Copy) where
+module _ (next from delay : List ℕ) (cs : Copies) (last : ℕ) (p : Copy) where
   abbrev over : (ℕ → ℕ) → ℕ → ℕ → ℕ → Bool
-  over = carriesTo before from delay node finish sets last p
+  over = carriedTo next from delay cs last p
 
   -- the set has p's node and what the links passed carry, down to `left`
   pub record Faulting (left set : ℕ) : Type 0 where
-    pub walk : Walk before last left
-    pub is : (key : ℕ → ℕ) (j : ℕ) → Chain key before j last → (q : ℕ) → (has set q or any left (over key j q)) ≡ (eqb (p .node) q or any last (over key j q))
+    pub walk : Walk next from delay cs last left
+    pub is : (key : ℕ → ℕ) (j : ℕ) → Chain key next j last → (q : ℕ)
+        → (has set q or over key j left q) ≡ (eqb (p .node) q or over key j last q)
 
-  pub faulting-start : (set : ℕ) → set ≡ 2 ^ p .node → Faulting last set
-  faulting-start set e =
-      record { walk = walk-start before last; is = λ key j c q. ap (λ b. b or any last (over key j q)) (ap (λ s. has s q) e ∙ has-one (p .node) q) }
+  pub faulting-start : Sending next from delay cs last → (set : ℕ) → set ≡ 2 ^ p .node → Faulting last set
+  faulting-start pre set e =
+      record {
+        walk = walk-start next from delay cs last pre;
+        is = λ key j c q. ap (λ b. b or over key j last q) (ap (λ s. has s q) e ∙ has-one (p .node) q);
+      }
 
   -- one link more
-  module _ (pre : Sending before from delay finish last) (left : ℕ) (more : left ≡ 0 → ⊥) where
-    abbrev k : ℕ
-    k = left - 1
+  pub faulting-more : (left set new : ℕ) → Faulting left set → (x : Sender) → Next next from delay cs last left x → new ≡ carriedOf x p
+      → Faulting (x .next) (bitOr set new)
+  faulting-more left set new h x n e =
+      record {
+        walk = n .walk;
+        is = λ key j c q.
+            let rest = over key j (x .next) q in
+            ap (λ b. b or rest) (has-union set new q) ∙ or-join _ _ _
+            ∙ ap (λ b. has set q or b) (or-swap (has new q) rest ∙ ap (λ b. rest or b) (ap (λ s. has s q) e ∙ has-carried x p q)
+            ∙ sym (n .some key j c (carriesFrom p q)))
+            ∙ h .is key j c q;
+      }
 
-    abbrev i : ℕ
-    i = 2 * getD from k 0 + 1
-
-    pub faulting-more : (set new : ℕ) → Faulting left set → new ≡ carriedOf (getD delay k 0) (getD node i 0) (getD finish i 0) (getD sets i 0) (p .node) (p .start)
-        → Faulting (getD before k 0) (bitOr set new)
-    faulting-more set new h e =
-        record {
-          walk = walk-next before from delay finish last pre left (h .walk) more;
-          is = λ key j c q.
-              let rest = any (getD before k 0) (over key j q) in
-              ap (λ b. b or rest) (has-union set new q) ∙ or-join _ _ _
-              ∙ ap (λ b. has set q or b) (or-swap (has new q) rest ∙ ap (λ b. rest or b) (ap (λ s. has s q) e ∙ has-carried _ _ _ _ _ _ q)
-              ∙ sym (any-asked key before j k (walk-chain before last left (h .walk) more key j c) _)
-              ∙ ap (λ n. any n (over key j q)) (sym (walk-tip before last left (h .walk) more)))
-              ∙ h .is key j c q;
-        }
-
-  pub faulting-done : (left set : ℕ) → left ≡ 0 → Faulting left set → Faulted before from delay node finish sets last p set
+  pub faulting-done : (left set : ℕ) → left ≡ 0 → Faulting left set → Faulted next from delay cs last p set
   faulting-done left set e h key j c q =
-      sym (ap (λ b. has set q or b) (ap (λ n. any n (over key j q)) e ∙ any-start (over key j q)) ∙ or-none _) ∙ h .is key j c q
+      sym (ap (λ b. has set q or b) (ap (λ n. over key j n q) e ∙ any-start _) ∙ or-none _) ∙ h .is key j c q

@@ -1,46 +1,55 @@
--- What a search asks of a copy is what the planner's rules ask of it.
+-- One task placed: what a search asks of a copy is what the planner's rules ask of it, and what the searches give is what `placeTask` gives.
 use Prim.Native.Nat.{ℕ, suc, _+_, _-_, _*_, _≤_, _<_, max}
 use mathlib.Core.Bool.{Bool, true, false, not}
 use mathlib.Core.List.{List}
-use mathlib.Core.Option.{Option}
-use mathlib.Core.Path.{_≡_, refl, sym, _∙_, ap, ap₂, fun-ext}
+use mathlib.Core.Option.{some}
+use mathlib.Core.Path.{_≡_, refl, sym, _∙_, ap, ap₂, subst, fun-ext}
+use lib.Bits.{bitAnd}
 use lib.Dec.{leb, ltb, eqb}
 use lib.ListN.{getD}
-use borrow.Author.Tests.{eq-eqb, ne-eqb, ltb-true}
+use borrow.Author.Tests.{eqb-true, eq-eqb, ne-eqb, ltb-true}
 use native.Mathlib.Omega.{arith}
 use Rattle.reader.specs.declared.job.Job.{Job}
+use Rattle.reader.specs.declared.job.Task.{Task}
+use Rattle.reader.specs.declared.refusal.Refusal.the-variants.{NoPrimary, NoBackup}
 use Rattle.reader.specs.Tests.{_and_, _or_, _implies_}
-use Rattle.reader.specs.First.{first, every, any, when}
-use Rattle.reader.specs.Limits.{maxTasks}
-use Rattle.reader.specs.Entries.{nodes, tasks, links, link, task, deadline, detect, run}
-use Rattle.reader.proofs.TestLaws.{clash, not-i, not-e, not-true, or-l, and-unless}
+use Rattle.reader.specs.First.{every, when}
+use Rattle.reader.specs.Limits.{maxNodes, maxTime}
+use Rattle.reader.specs.Entries.{nodes, tasks, links, link, task, deadline, detect, run, noNode}
+use Rattle.reader.specs.Sound.{Sound}
+use Rattle.reader.proofs.TestLaws.{split, clash, not-i, not-e, not-true, and-yes, and-no, and-unless}
 use Rattle.reader.proofs.FirstLaws.{first-same, every-same, any-same}
 use Rattle.rules.specs.declared.Copy.{Copy}
 use Rattle.rules.specs.Copies.{copy, inTime, domain}
 use Rattle.rules.specs.Copies.{delay as delayOfLink}
 use Rattle.rules.specs.Rules.{Row, row, strong, carries, faultSet, ruleA, ruleB, ruleD, ruleE, ruleF, ruleGBackup}
-use Rattle.rules.specs.Planner.{earliest, primaryKeeps, backupKeeps}
-use Rattle.rules.proofs.FaultSetLaws.{faults-here, faults-e}
+use Rattle.rules.specs.Attempts.{_>>=_, _or-refuse_}
+use Rattle.rules.specs.Planner.{earliest, primaryKeeps, primaryMay, backupKeeps, placeTask}
+use Rattle.rules.specs.Choice.{Best, backupKeepsBeside}
+use Rattle.rules.proofs.EarliestLaws.{earliest-some}
+use Rattle.rules.proofs.FaultSetLaws.{faults-here}
 use Rattle.copies.specs.declared.table.Copies.{Copies}
-use Rattle.copies.specs.Sets.{has, everyNode}
+use Rattle.copies.specs.Sets.{has, meets, everyNode}
 use Rattle.copies.specs.Arrival.{delayOf, inTimeOf}
-use Rattle.copies.specs.Table.{rowOf}
-use Rattle.copies.specs.Chain.{Chain}
+use Rattle.copies.specs.Table.{entry, setAt, rowOf}
 use Rattle.copies.specs.Clash.{free}
-use Rattle.copies.proofs.SetLaws.{has-none}
+use Rattle.copies.proofs.SetLaws.{has-none, has-both, has-every, empty-set, meets-i}
 use Rattle.copies.proofs.ArrivalLaws.{leb-max}
 use Rattle.copies.proofs.ChainLaws.{chain-of, chain-within}
 use Rattle.copies.proofs.ClashLaws.{free-last, free-primary, free-backup}
-use Rattle.planner.specs.declared.senders.Senders.{Senders}
+use Rattle.planner.specs.declared.senders.Sender.{Sender}
 use Rattle.planner.specs.declared.inputs.Ready.{Ready}
-use Rattle.planner.specs.declared.inputs.Inputs.{Inputs}
 use Rattle.planner.specs.declared.search.Search.{Search}
-use Rattle.planner.specs.Senders.{receiver, Sending}
-use Rattle.planner.specs.Search.{tryAt, bestOf, freeFrom, nodeOk, fits, primarySearch, backupSearch, Searched}
-use Rattle.planner.specs.Inputs.{readyOn, latestInput, primaryFed, Given}
-use Rattle.planner.specs.Faults.{carriesTo, Faulted}
-use Rattle.planner.specs.Tasks.{Planning}
-use Rattle.planner.proofs.SentLaws.{into-chain, into-every, into-any, sending}
+use Rattle.planner.specs.declared.slot.Slot.{Slot}
+use Rattle.planner.specs.declared.slot.Slot.the-variants.{At, Nothing}
+use Rattle.planner.specs.declared.task.Want.{Want}
+use Rattle.planner.specs.declared.task.Placing.the-variants.{At as Placed, Nowhere}
+use Rattle.planner.specs.Senders.{senderAt, latestInput, Sending}
+use Rattle.planner.specs.Search.{slotCopy, tryAt, bestOf, freeFrom, nodeOk, fits, primarySearch, backupSearch, Searched}
+use Rattle.planner.specs.Inputs.{readyOn, fedBy, Given}
+use Rattle.planner.specs.Faults.{carriesFrom, Faulted}
+use Rattle.planner.specs.Tasks.{primaryFrom, Wanted, attempted}
+use Rattle.planner.proofs.SentLaws.{into-every, into-any, into-sending}
 
 -- searches that agree on every place that may count
 gate : (a b x y : Bool) (c : Copy) → (a ≡ true → b ≡ true → x ≡ y) → when (a and b and x) c ≡ when (a and b and y) c
@@ -57,161 +66,251 @@ earliest-same job j ok good h =
     gate (ltb 0 (run job j n)) (leb (run job j n) t) _ _ _ λ a b. h n (t - run job j n) pn (ltb-true 0 (run job j n) a)
 
 -- the best over the job's nodes is the earliest of the rules
-best-earliest : (job : Job) (j : ℕ) (ok good : Copy → Bool) (o : Option Copy)
+best-earliest : (job : Job) (j : ℕ) (t : Task) (n : ℕ) → t ≡ task job j → n ≡ nodes job → (ok good : Copy → Bool)
     → ((c : Copy) → c .node < nodes job → c .start < c .finish → ok c ≡ good c)
-    → o ≡ bestOf (task job j .run) (suc (deadline job j)) ok (nodes job) → o ≡ earliest job j good
+    → bestOf (t .run) (suc (t .deadline)) ok n ≡ earliest job j good
 unfolding bestOf tryAt earliest copy
-best-earliest job j ok good o h e = e ∙ earliest-same job j ok good (λ n s pn able. h (copy job j n s) pn (omega arith))
+best-earliest job j t n is-t is-n ok good h =
+    ap₂ (λ t n. bestOf (t .run) (suc (t .deadline)) ok n) is-t is-n
+    ∙ earliest-same job j ok good (λ n s pn able. h (copy job j n s) pn (omega arith))
 
--- five tests in another order
+-- what holds of a copy that a search found
+pub record Found (job : Job) (c : Copy) : Type 0 where
+  pub node : c .node < nodes job
+  pub lasts : c .start < c .finish
+  pub ends : c .finish ≤ maxTime
+
+pub best-found : (job : Job) (j : ℕ) (keeps : Copy → Bool) (c : Copy) → Sound job → j < tasks job → Best job j keeps c → Found job c
+unfolding copy
+best-found job j keeps c sound p best =
+    let ends = ap (λ d. d .finish) (best .is) in
+    record {
+      node = best .place .able .node;
+      lasts = omega (arith, best .place .able .runs);
+      ends = omega (arith, best .place .able .in-time, sound .deadline-most j p);
+    }
+
+-- nothing meets the empty set
+meets-none : (z : ℕ) → meets z 0 ≡ false
+unfolding meets _and_
+meets-none z = rw (empty-set (bitAnd z 0) (λ n. has-both z 0 n ∙ ap (λ b. has z n and b) (has-none n) ∙ and-no (has z n)))
+
+-- tests in another order
+swap : (a b c : Bool) → ((b and a) and c) ≡ (a and b and c)
+unfolding _and_
+swap true true c = refl
+swap true false c = refl
+swap false true c = refl
+swap false false c = refl
+
+four : (n a d g u : Bool) → u ≡ (d and a) → (n and u and g) ≡ ((n and a) and d and g)
+unfolding _and_
+four true a d g u e = rw e (swap a d g)
+four false a d g u e = refl
+
 shuffle : (ra rb re rf rg x : Bool) → (rf ≡ true → ra ≡ true) → x ≡ (re and rb) → (rf and x and rg) ≡ (ra and rb and re and rf and rg)
 unfolding _and_
 shuffle true rb re true rg x h e = rw e (swap rb re rg)
-  where
-    swap : (rb re rg : Bool) → ((re and rb) and rg) ≡ (rb and re and rg)
-    swap true true rg = refl
-    swap true false rg = refl
-    swap false true rg = refl
-    swap false false rg = refl
 shuffle false rb re true rg x h e = clash false (h refl) refl
 shuffle true true true false rg x h e = refl
 shuffle true true false false rg x h e = refl
 shuffle true false re false rg x h e = refl
 shuffle false rb re false rg x h e = refl
 
--- at task j, with the tasks before it placed
-module _ (job : Job) (net : Senders) (j : ℕ) (cs : Copies) (before last : List ℕ) (so-far : Planning job net j cs before last) (task-of : j < tasks job) where
-  few : j < maxTasks
-  few = omega (arith, so-far .sound .tasks-most)
+module _ (next from delay : List ℕ) (cs : Copies) (before last : List ℕ) (want : Want) (w : Wanted next from delay cs before last want) where
+  abbrev job : Job
+  job = w .job
 
-  pub links-sending : Sending (net .before) (net .from) (net .delay) (cs .finish) (getD (net .last) j 0)
-  links-sending = sending job (so-far .sound) _ _ _ _ (so-far .sent) j few (cs .finish) (so-far .soon)
+  abbrev j : ℕ
+  j = want .number
 
-  -- the bits of a fault set are those of the rules
-  module _ (p : Copy) (set : ℕ) (is : Faulted (net .before) (net .from) (net .delay) (cs .node) (cs .finish) (cs .set) (getD (net .last) j 0) p set) where
-    abbrev chain-is : (q : ℕ) → has set q ≡ (eqb (p .node) q or any (getD (net .last) j 0) (carriesTo (net .before) (net .from) (net .delay) (cs .node) (cs .finish) (cs .set) (getD (net .last) j 0) p (receiver job) j q))
-    chain-is = is (receiver job) j (into-chain job (so-far .sound) _ _ _ _ (so-far .sent) j few)
+  abbrev key : ℕ → ℕ
+  key m = link job m .to
 
-    pub faults-is : has set ≡ faultSet job (rowOf cs) j p
-    unfolding faultSet carries strong inTime inTimeOf delayOfLink delayOf rowOf domain
-    faults-is =
-        fun-ext λ q. chain-is q ∙ ap (λ b. eqb (p .node) q or b)
-        (into-any job (so-far .sound) _ _ _ _ (so-far .sent) j few _ (λ m h. and-unless _ _ (ne-eqb (receiver job m) j h))
-        ∙ any-same (links job) _ _ (λ m b. rw (so-far .sent .froms m b, so-far .sent .delays m b)))
-
-    pub faults-own : has set (p .node) ≡ true
-    faults-own = chain-is (p .node) ∙ or-l _ _ (eq-eqb (p .node) (p .node) refl)
-
-    pub faults-within : p .node < nodes job → (q : ℕ) → has set q ≡ true → q < nodes job
-    unfolding rowOf domain
-    faults-within on q t =
-        faults-e job (rowOf cs) j p q (sym (ap (λ f. f q) faults-is) ∙ t) (λ e. omega arith)
-        (λ k b e w h. so-far .held .within (link job k .from) q (omega (arith, so-far .sound .rise k b)) h)
+  pub want-sending : Sending next from delay cs (want .into)
+  want-sending = into-sending job next from delay j (want .into) (w .into) (w .sound) (w .rows) cs before last (w .beside)
 
   -- no clash on the chain of the copy's node, and none at all
-  free-all : (m : ℕ) (c : Copy) → c .node < nodes job → free cs m c (getD last (c .node) 0) ≡ free cs m c (2 * j)
+  free-all : (m : ℕ) (c : Copy) → c .node < nodes job → free cs m c (getD last (c .node) 0) ≡ free cs m c (2 * w .rows)
   free-all m c p =
-      ap (free cs m c) (so-far .chained .lasts (c .node) (omega (arith, so-far .sound .nodes-most))) ∙ free-last cs m c (2 * j)
+      ap (free cs m c) (w .beside .laid .lasts (c .node) (omega (arith, w .sound .nodes-most))) ∙ free-last cs m c (2 * w .rows)
 
-  -- of either search
+  -- either search
+  abbrev searching : Ready → ℕ → ℕ → ℕ → Search
+  searching ready least set barred =
+      record { task = want .task; nodes = want .count; ready = ready; least = least; set = set; barred = barred }
+
   searched : (ready : Ready) (least set barred : ℕ) → least ≤ latestInput → ((n : ℕ) → readyOn ready n ≤ latestInput)
-      → Searched cs before last (record { task = task job j; nodes = nodes job; ready = ready; least = least; set = set; barred = barred })
+      → Searched cs before last (searching ready least set barred)
   searched ready least set barred p q =
       record {
-        nodes-most = so-far .sound .nodes-most;
-        run = λ n r. so-far .sound .run-most j n (task-of) r;
-        deadline = so-far .sound .deadline-most j (task-of);
-        lasts = λ n r. omega (arith, chain-within _ _ _ _ last before (so-far .chained) n r, few);
-        chains = λ n r. chain-of _ _ _ _ last before (so-far .chained) n r;
-        ends = λ n r k b. so-far .soon k;
+        nodes-most = omega (arith, w .count-is, w .sound .nodes-most);
+        run = λ n r. subst (λ t. getD (t .run) n 0 ≤ maxTime) (sym (w .task-is)) (w .sound .run-most j n (w .task-of) (omega (arith, w .count-is)));
+        deadline = subst (λ t. t .deadline ≤ maxTime) (sym (w .task-is)) (w .sound .deadline-most j (w .task-of));
+        lasts = λ n r. omega (arith, chain-within _ _ _ _ last before (w .beside .laid) n r, w .beside .few);
+        chains = λ n r. chain-of _ _ _ _ last before (w .beside .laid) n r;
+        ends = λ n r k b. w .beside .soon k;
         least = p;
         ready = q;
       }
 
-module _ (job : Job) (net : Senders) (j : ℕ) (cs : Copies) (before last : List ℕ) (so-far : Planning job net j cs before last) (task-of : j < tasks job) (inputs : Inputs) (given : Given (net .before) (net .from) (net .delay) (cs .node) (cs .finish) (getD (net .last) j 0) inputs) where
-  abbrev here : Chain (receiver job) (net .before) j (getD (net .last) j 0)
-  here = into-chain job (so-far .sound) _ _ _ _ (so-far .sent) j (few job net j cs before last so-far task-of)
+  -- what it gave
+  abbrev Gave : Search → Slot → Type 0
+  Gave s a = slotCopy a ≡ bestOf (s .task .run) (suc (s .task .deadline)) (fits cs last s) (s .nodes)
 
-  -- the primary
-  pub primary-searched : Searched cs before last (primarySearch (task job j) (nodes job) (inputs .primary))
-  primary-searched = searched job net j cs before last so-far task-of _ 0 _ 0 (omega arith) (λ n. given .most n .0)
+  gave : (s t : Search) → s ≡ t → t .task ≡ want .task → t .nodes ≡ want .count → (keeps : Copy → Bool)
+      → ((c : Copy) → c .node < nodes job → c .start < c .finish → fits cs last t c ≡ keeps c)
+      → (a : Slot) → Gave s a → slotCopy a ≡ earliest job j keeps
+  gave s t e u v keeps h a g =
+      subst (λ s. Gave s a) e g ∙ best-earliest job j _ _ (u ∙ w .task-is) (v ∙ w .count-is) (fits cs last t) keeps h
 
-  d-is : (c : Copy)
-      → every (getD (net .last) j 0) (primaryFed (net .from) (net .delay) (cs .node) (cs .finish) (receiver job) j c)
-      ≡ every (links job) (λ k. eqb (link job k .to) j implies ruleD job (link job k) (rowOf cs (link job k .from)) c)
-  unfolding ruleD inTime inTimeOf delayOfLink delayOf rowOf _implies_
-  d-is c =
-      into-every job (so-far .sound) _ _ _ _ (so-far .sent) j (few job net j cs before last so-far task-of) _ (λ m h. rw (ne-eqb (receiver job m) j h))
-      ∙ every-same (links job) _ _ (λ m b. rw (so-far .sent .froms m b, so-far .sent .delays m b))
+  found : (keeps : Copy → Bool) (c : Copy) → earliest job j keeps ≡ some c → Found job c
+  found keeps c e = best-found job j keeps c (w .sound) (w .task-of) (earliest-some job j keeps c .0 e)
 
-  primary-fits : (c : Copy) → c .node < nodes job → c .start < c .finish
-      → fits cs last (primarySearch (task job j) (nodes job) (inputs .primary)) c ≡ primaryKeeps job (rowOf cs) j c
-  unfolding fits nodeOk freeFrom primaryKeeps _and_
-  primary-fits c p q =
-      let from : max (readyOn (inputs .primary) (c .node)) 0 ≡ readyOn (inputs .primary) (c .node) = omega arith in
-      rw (has-none (c .node), from)
-      (ap₂ (λ x y. x and y) (given .primary (receiver job) j here c ∙ d-is c)
-      (free-all job net j cs before last so-far task-of everyNode c p ∙ free-primary job cs j (so-far .sound .nodes-most) (so-far .held) c q))
+  -- the inputs of a copy of this set
+  abbrev Fed : ℕ → Ready → Type 0
+  Fed set r = Given next from delay cs (want .into) set r
 
-  pub primary-earliest : (o : Option Copy)
-      → o ≡ bestOf (task job j .run) (suc (deadline job j)) (fits cs last (primarySearch (task job j) (nodes job) (inputs .primary))) (nodes job)
-      → o ≡ earliest job j (primaryKeeps job (rowOf cs) j)
-  primary-earliest o e = best-earliest job j _ _ o primary-fits e
+  -- what comes by link m
+  abbrev sends : ℕ → Sender
+  sends m =
+      let k = 2 * link job m .from in
+      record { primary = entry cs k; backup = entry cs (k + 1); set = setAt cs (k + 1); delay = link job m .delay; next = getD next m 0 }
 
-  -- the backup, whose primary is p
-  module _ (p : Copy) (on : p .node < nodes job) (set : ℕ) (is : Faulted (net .before) (net .from) (net .delay) (cs .node) (cs .finish) (cs .set) (getD (net .last) j 0) p set) where
-    abbrev least : ℕ
-    least = p .finish + detect job (p .node)
+  sends-is : (m : ℕ) → m < links job → senderAt next from delay cs m ≡ sends m
+  sends-is m b = rw (w .into .froms m b, w .into .delays m b)
 
-    abbrev the-row : Copy → Row
-    the-row b = row job (rowOf cs) j p b
+  fed-is : (set : ℕ) (r : Ready) → Fed set r → (c : Copy) (t : ℕ → Bool)
+      → ((m : ℕ) → m < links job → key m ≡ j → fedBy set c (sends m) ≡ t m)
+      → leb (readyOn r (c .node)) (c .start) ≡ every (links job) (λ m. eqb (key m) j implies t m)
+  unfolding _implies_
+  fed-is set r given c t h =
+      given .ready key j (w .into .chain) c
+      ∙ into-every job next from delay j (want .into) (w .into) _ (λ m h. rw (ne-eqb (key m) j h))
+      ∙ every-same (links job) _ _ (λ m b. split (eqb (key m) j)
+      (λ e. rw e (ap (fedBy set c) (sends-is m b) ∙ h m b (eqb-true (key m) j e)))
+      (λ e. rw e))
 
-    abbrev second : Search
-    second = backupSearch (task job j) (nodes job) (inputs .backup) least set
+  -- the primary's search
+  module _ (fed : Ready) (given : Fed 0 fed) (s : Search) (is-s : s ≡ primarySearch (want .task) (want .count) fed (want .least) (want .shut)) where
+    pub primary-ready : Searched cs before last s
+    primary-ready = subst (Searched cs before last) (sym is-s) (searched fed (want .least) everyNode (want .shut) (w .least-most) (given .most))
 
-    pub backup-searched : least ≤ latestInput → Searched cs before last second
-    backup-searched q = searched job net j cs before last so-far task-of _ least set set q (λ n. given .most n .1)
+    abbrev may : Copy → Bool
+    may = primaryMay job (primaryFrom (want .least) (want .shut)) (w .rows) (rowOf cs) j
 
-    faults : has set ≡ faultSet job (rowOf cs) j p
-    faults = faults-is job net j cs before last so-far task-of p set is
+    d-is : (c : Copy) → leb (readyOn fed (c .node)) (c .start)
+        ≡ every (links job) (λ k. eqb (key k) j implies ruleD job (link job k) (rowOf cs (link job k .from)) c)
+    unfolding ruleD inTime inTimeOf delayOfLink delayOf rowOf _implies_
+    d-is c = fed-is 0 fed given c _ (λ m b e. rw (meets-none (setAt cs (2 * link job m .from + 1))) (and-yes _))
 
-    -- A follows from F
-    a-from-f : (b : Copy) → ruleF job (the-row b) ≡ true → ruleA job (the-row b) ≡ true
-    unfolding ruleA ruleF row
-    a-from-f b h =
-        not-i _ (not-true _ λ e.
-        clash _ (faults-here job (rowOf cs) j p (domain job (b .node)) e) (not-e _ h))
+    primary-fits : (c : Copy) → c .node < nodes job → c .start < c .finish
+        → fits cs last (primarySearch (want .task) (want .count) fed (want .least) (want .shut)) c ≡ may c
+    unfolding fits nodeOk freeFrom primaryKeeps primaryFrom
+    primary-fits c p q =
+        ap (λ g. not (has (want .shut) (c .node)) and leb (max (readyOn fed (c .node)) (want .least)) (c .start) and g)
+        (free-all everyNode c p ∙ free-primary job cs (w .rows) (w .sound .nodes-most) (w .beside .held) c q)
+        ∙ four _ (leb (want .least) (c .start)) _ _ _ (leb-max _ (want .least) (c .start) ∙ ap (λ d. d and leb (want .least) (c .start)) (d-is c))
 
-    f-is : (b : Copy) → not (has set (b .node)) ≡ ruleF job (the-row b)
-    unfolding ruleF row domain
-    f-is b = ap (λ f. not (f (b .node))) faults
+    module _ (a : Slot) (is-a : Gave s a) where
+      the-primary : slotCopy a ≡ earliest job j may
+      the-primary = gave s _ is-s refl refl may primary-fits a is-a
 
-    g-is : (b : Copy) → b .node < nodes job → b .start < b .finish → free cs set b (getD last (b .node) 0) ≡ every j (λ i. ruleGBackup job (rowOf cs i) (the-row b))
-    unfolding row
-    g-is b w q =
-        free-all job net j cs before last so-far task-of set b w
-        ∙ free-backup job cs j (so-far .sound .nodes-most) (so-far .held) b q set (p .node) (the-row b) refl faults on
-        (faults-own job net j cs before last so-far task-of p set is)
+      pub no-primary : a ≡ Nothing → attempted (Nowhere (NoPrimary j)) ≡ placeTask job (primaryFrom (want .least) (want .shut)) (w .rows) (rowOf cs) j
+      unfolding attempted placeTask _>>=_ _or-refuse_
+      no-primary e = rw (sym the-primary ∙ ap slotCopy e)
 
-    e-is : (b : Copy)
-        → leb (readyOn (inputs .backup) (b .node)) (b .start) ≡ every (links job) (λ k. eqb (link job k .to) j implies ruleE job (link job k) (rowOf cs (link job k .from)) (the-row b))
-    unfolding ruleE row inTime inTimeOf delayOfLink delayOf rowOf _implies_
-    e-is b =
-        given .backup (receiver job) j here b
-        ∙ into-every job (so-far .sound) _ _ _ _ (so-far .sent) j (few job net j cs before last so-far task-of) _ (λ m h. rw (ne-eqb (receiver job m) j h))
-        ∙ every-same (links job) _ _ (λ m b. rw (so-far .sent .froms m b, so-far .sent .delays m b))
+      module _ (p : Copy) (at-p : a ≡ At p) where
+        some-primary : earliest job j may ≡ some p
+        some-primary = sym the-primary ∙ ap slotCopy at-p
 
-    b-is : (b : Copy) → leb least (b .start) ≡ ruleB job (the-row b)
-    unfolding ruleB row
-    b-is b = refl
+        p-found : Found job p
+        p-found = found may p some-primary
 
-    backup-fits : (b : Copy) → b .node < nodes job → b .start < b .finish → fits cs last second b ≡ backupKeeps job (rowOf cs) j (the-row b)
-    unfolding fits nodeOk freeFrom backupKeeps
-    backup-fits b pn q =
-        ap₂ (λ x y. x and leb (max (readyOn (inputs .backup) (b .node)) least) (b .start) and y) (f-is b) (g-is b pn q)
-        ∙ shuffle (ruleA job (the-row b)) (ruleB job (the-row b)) _ (ruleF job (the-row b)) _ _ (a-from-f b)
-        (leb-max _ _ (b .start) ∙ ap₂ (λ x y. x and y) (e-is b) (b-is b))
+        pub primary-node : p .node < maxNodes
+        primary-node = omega (arith, p-found .node, w .sound .nodes-most)
 
-    pub backup-earliest : (o : Option Copy) → o ≡ bestOf (task job j .run) (suc (deadline job j)) (fits cs last second) (nodes job)
-        → o ≡ earliest job j (λ b. backupKeeps job (rowOf cs) j (row job (rowOf cs) j p b))
-    backup-earliest o e = best-earliest job j _ _ o backup-fits e
+        abbrev least : ℕ
+        least = p .finish + getD (want .nodes) (p .node) noNode .detect
+
+        pub least-fits : least ≤ latestInput
+        least-fits =
+            subst (λ x. p .finish + getD x (p .node) noNode .detect ≤ latestInput) (sym (w .nodes-are))
+            (omega (arith, p-found .ends, w .sound .detect-most (p .node) (p-found .node)))
+
+        -- with this fault set
+        module _ (set : ℕ) (is-set : Faulted next from delay cs (want .into) p set) where
+          faults : has set ≡ faultSet job (rowOf cs) j p
+          unfolding faultSet carries strong inTime inTimeOf delayOfLink delayOf rowOf domain
+          faults =
+              fun-ext λ q. is-set key j (w .into .chain) q ∙ ap (λ b. eqb (p .node) q or b)
+              (into-any job next from delay j (want .into) (w .into) _ (λ m h. and-unless _ _ (ne-eqb (key m) j h))
+              ∙ any-same (links job) _ _ (λ m b. ap (λ x. eqb (key m) j and carriesFrom p q x) (sends-is m b)))
+
+          faults-own : has set (p .node) ≡ true
+          unfolding domain
+          faults-own = ap (λ f. f (p .node)) faults ∙ faults-here job (rowOf cs) j p (p .node) (eq-eqb (p .node) (p .node) refl)
+
+          abbrev the-row : Copy → Row
+          the-row b = row job (rowOf cs) j p b
+
+          -- A follows from F
+          a-from-f : (b : Copy) → ruleF job (the-row b) ≡ true → ruleA job (the-row b) ≡ true
+          unfolding ruleA ruleF row
+          a-from-f b h =
+              not-i _ (not-true _ λ e.
+              clash _ (faults-here job (rowOf cs) j p (domain job (b .node)) e) (not-e _ h))
+
+          b-is : (b : Copy) → leb least (b .start) ≡ ruleB job (the-row b)
+          unfolding ruleB row
+          b-is b = ap (λ x. leb (p .finish + getD x (p .node) noNode .detect) (b .start)) (w .nodes-are)
+
+          f-is : (b : Copy) → not (has set (b .node)) ≡ ruleF job (the-row b)
+          unfolding ruleF row domain
+          f-is b = ap (λ f. not (f (b .node))) faults
+
+          g-is : (b : Copy) → b .node < nodes job → b .start < b .finish
+              → free cs set b (getD last (b .node) 0) ≡ every (w .rows) (λ i. ruleGBackup job (rowOf cs i) (the-row b))
+          unfolding row
+          g-is b on q =
+              free-all set b on
+              ∙ free-backup job cs (w .rows) (w .sound .nodes-most) (w .beside .held) b q set (p .node) (the-row b) refl faults (p-found .node) faults-own
+
+          -- and the backup's search
+          module _ (late : Ready) (more : Fed everyNode late) (t : Search) (is-t : t ≡ backupSearch (want .task) (want .count) late least set) where
+            pub backup-ready : Searched cs before last t
+            backup-ready = subst (Searched cs before last) (sym is-t) (searched late least set set least-fits (more .most))
+
+            -- a sender's set meets the set of every node
+            counted : (m : ℕ) → m < links job → key m ≡ j → meets (setAt cs (2 * link job m .from + 1)) everyNode ≡ true
+            counted m b e =
+                let i = link job m .from in
+                let h = w .beside .held in
+                let q = w .fed m b e in
+                meets-i _ everyNode (entry cs (2 * i) .node) (h .own i q) (has-every _ (omega (arith, h .node (2 * i) (omega arith), w .sound .nodes-most)))
+
+            e-is : (b : Copy) → leb (readyOn late (b .node)) (b .start)
+                ≡ every (links job) (λ k. eqb (key k) j implies ruleE job (link job k) (rowOf cs (link job k .from)) (the-row b))
+            unfolding ruleE row inTime inTimeOf delayOfLink delayOf rowOf _implies_
+            e-is b = fed-is everyNode late more b _ (λ m q e. rw (counted m q e))
+
+            backup-fits : (b : Copy) → b .node < nodes job → b .start < b .finish
+                → fits cs last (backupSearch (want .task) (want .count) late least set) b ≡ backupKeepsBeside job (w .rows) (rowOf cs) j p b
+            unfolding fits nodeOk freeFrom backupKeeps
+            backup-fits b on q =
+                ap₂ (λ x y. x and leb (max (readyOn late (b .node)) least) (b .start) and y) (f-is b) (g-is b on q)
+                ∙ shuffle (ruleA job (the-row b)) (ruleB job (the-row b)) _ (ruleF job (the-row b)) _ _ (a-from-f b)
+                (leb-max _ _ (b .start) ∙ ap₂ (λ x y. x and y) (e-is b) (b-is b))
+
+            module _ (b : Slot) (is-b : Gave t b) where
+              the-backup : slotCopy b ≡ earliest job j (backupKeepsBeside job (w .rows) (rowOf cs) j p)
+              the-backup = gave t _ is-t refl refl _ backup-fits b is-b
+
+              pub no-backup : b ≡ Nothing → attempted (Nowhere (NoBackup j)) ≡ placeTask job (primaryFrom (want .least) (want .shut)) (w .rows) (rowOf cs) j
+              unfolding attempted placeTask _>>=_ _or-refuse_
+              no-backup e = rw (some-primary, sym the-backup ∙ ap slotCopy e)
+
+              pub both : (q : Copy) → b ≡ At q → attempted (Placed (record { primary = p; backup = q; set = set }))
+                  ≡ placeTask job (primaryFrom (want .least) (want .shut)) (w .rows) (rowOf cs) j
+              unfolding attempted placeTask row _>>=_ _or-refuse_
+              both q e = rw (some-primary, sym the-backup ∙ ap slotCopy e, faults)

@@ -6,5 +6,6 @@ pub mod LeapLaws
 pub mod BestLaws
 pub mod SentLaws
 pub mod KeepsLaws
+pub mod BookLaws
 pub mod TaskLaws
 pub mod PlannedLaws

@@ -1,29 +1,32 @@
 -- The fault set of a task as bits.
-use Prim.Native.Nat.{ℕ, _+_, _*_}
+use Prim.Native.Nat.{ℕ}
 use mathlib.Core.Bool.{Bool, not, cond}
 use mathlib.Core.List.{List}
 use mathlib.Core.Path.{_≡_}
 use lib.Dec.{eqb}
-use lib.ListN.{getD}
 use Rattle.reader.specs.Tests.{_and_, _or_}
 use Rattle.reader.specs.First.{any}
 use Rattle.rules.specs.declared.Copy.{Copy}
+use Rattle.copies.specs.declared.table.Copies.{Copies}
 use Rattle.copies.specs.Sets.{has}
-use Rattle.copies.specs.Arrival.{inTimeOf}
 use Rattle.copies.specs.Chain.{Chain}
-use Rattle.planner.specs.Inputs.{copyInTime}
+use Rattle.planner.specs.declared.senders.Sender.{Sender}
+use Rattle.planner.specs.Senders.{senderAt}
+use Rattle.planner.specs.Inputs.{comes}
 
 -- nothing where the link is strong, else the sender's set
-unfoldable pub carriedOf : ℕ → ℕ → ℕ → ℕ → ℕ → ℕ → ℕ
-carriedOf delay from finish set own start = cond (inTimeOf delay from finish own start) 0 set
+unfoldable pub carriedOf : Sender → Copy → ℕ
+carriedOf x p = cond (comes (x .delay) (x .backup) p) 0 (x .set)
 
-module _ (before from delay node finish sets : List ℕ) (last : ℕ) (p : Copy) where
-  -- link m leads to j and is weak, and q is in its sender's fault set
-  abbrev pub carriesTo : (ℕ → ℕ) → ℕ → ℕ → ℕ → Bool
-  carriesTo key j q m =
-      let k = 2 * getD from m 0 + 1 in
-      eqb (key m) j and not (copyInTime from delay node finish key j p m k) and has (getD sets k 0) q
+-- the link is weak, and q is in its sender's fault set
+abbrev pub carriesFrom : Copy → ℕ → Sender → Bool
+carriesFrom p q x = not (comes (x .delay) (x .backup) p) and has (x .set) q
+
+module _ (next from delay : List ℕ) (cs : Copies) (last : ℕ) (p : Copy) where
+  -- by one of the first n links that lead to j
+  abbrev pub carriedTo : (ℕ → ℕ) → ℕ → ℕ → ℕ → Bool
+  carriedTo key j n q = any n (λ m. eqb (key m) j and carriesFrom p q (senderAt next from delay cs m))
 
   -- along the chain of links that begins at `last`, whatever task it leads to
   abbrev pub Faulted : ℕ → Type 0
-  Faulted set = (key : ℕ → ℕ) (j : ℕ) → Chain key before j last → (q : ℕ) → has set q ≡ (eqb (p .node) q or any last (carriesTo key j q))
+  Faulted set = (key : ℕ → ℕ) (j : ℕ) → Chain key next j last → (q : ℕ) → has set q ≡ (eqb (p .node) q or carriedTo key j last q)

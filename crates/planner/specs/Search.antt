@@ -21,7 +21,8 @@ use Rattle.planner.specs.declared.search.Ask.{Ask}
 use Rattle.planner.specs.declared.search.Search.{Search}
 use Rattle.planner.specs.declared.slot.Slot.{Slot}
 use Rattle.planner.specs.declared.slot.Slot.the-variants.{At, Nothing}
-use Rattle.planner.specs.Inputs.{readyOn, latestInput}
+use Rattle.planner.specs.Senders.{latestInput}
+use Rattle.planner.specs.Inputs.{readyOn}
 
 abbrev pub slotCopy : Slot → Option Copy
 slotCopy (At c) = some c
@@ -78,8 +79,9 @@ fits cs last search c =
     nodeOk cs (search .set) (getD last (c .node) 0) (max (readyOn (search .ready) (c .node)) (search .least)) (search .barred) c
 
 -- the searches for a task's primary, and for its backup
-abbrev pub primarySearch : Task → ℕ → Ready → Search
-primarySearch task nodes ready = record { task = task; nodes = nodes; ready = ready; least = 0; set = everyNode; barred = 0 }
+abbrev pub primarySearch : Task → ℕ → Ready → ℕ → ℕ → Search
+primarySearch task nodes ready least shut =
+    record { task = task; nodes = nodes; ready = ready; least = least; set = everyNode; barred = shut }
 
 abbrev pub backupSearch : Task → ℕ → Ready → ℕ → ℕ → Search
 backupSearch task nodes ready least set = record { task = task; nodes = nodes; ready = ready; least = least; set = set; barred = set }

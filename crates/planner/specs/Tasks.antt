@@ -1,35 +1,103 @@
--- Task by task: the table after the first tasks, and the plan of all.
-use Prim.Native.Nat.{ℕ, _+_, _*_, _≤_}
+-- Task by task: what is wanted, where it is placed and how it is stored; the table after the first tasks, and the plan of all.
+use Prim.Native.Nat.{ℕ, _+_, _*_, _≤_, _<_}
+use mathlib.Core.Bool.{Bool, not}
 use mathlib.Core.List.{List}
 use mathlib.Core.Path.{_≡_}
+use lib.Dec.{leb}
 use lib.ListN.{getD, replicate}
 use Rattle.reader.specs.declared.job.Job.{Job}
+use Rattle.reader.specs.declared.job.Node.{Node}
+use Rattle.reader.specs.declared.job.Task.{Task}
 use Rattle.reader.specs.declared.plan.Place.{Place}
 use Rattle.reader.specs.declared.plan.Plan.{Plan}
 use Rattle.reader.specs.declared.refusal.Answer.the-variants.{Done, Refused}
+use Rattle.reader.specs.Tests.{_and_}
 use Rattle.reader.specs.First.{fill}
 use Rattle.reader.specs.Limits.{maxNodes, maxTasks, maxStart, maxTime}
-use Rattle.reader.specs.Entries.{tasks, links, noPlace, emptyPlan}
+use Rattle.reader.specs.Entries.{nodes, tasks, links, task, link, noPlace, emptyPlan}
 use Rattle.reader.specs.Sound.{Sound}
+use Rattle.rules.specs.declared.Copy.{Copy}
+use Rattle.rules.specs.Rules.{Row}
 use Rattle.rules.specs.Attempts.{Attempt, refused, placed}
-use Rattle.rules.specs.Planner.{placeTasks}
+use Rattle.rules.specs.Planner.{placeTasks, anywhere}
 use Rattle.copies.specs.declared.table.Copies.{Copies}
-use Rattle.copies.specs.Table.{copyCount, nodeAt, rowOf, Whole, Held}
+use Rattle.copies.specs.Sets.{has, everyNode}
+use Rattle.copies.specs.Table.{copyCount, nodeAt, entry, setAt, rowOf, Whole, Held}
 use Rattle.copies.specs.Chain.{Chained}
 use Rattle.planner.specs.declared.Planned.{Planned}
-use Rattle.planner.specs.declared.senders.Senders.{Senders}
-use Rattle.planner.specs.Senders.{Sent}
+use Rattle.planner.specs.declared.task.Want.{Want}
+use Rattle.planner.specs.declared.task.Pair.{Pair}
+use Rattle.planner.specs.declared.task.Placing.{Placing}
+use Rattle.planner.specs.declared.task.Placing.the-variants.{At, Nowhere}
+use Rattle.planner.specs.Senders.{Net, Sent, Into, latestInput}
 
--- after the first j tasks, with the job's links by receiver and the chains of the copies on each node
-pub record Planning (job : Job) (net : Senders) (j : ℕ) (cs : Copies) (before last : List ℕ) : Type 0 where
-  pub sound : Sound job
-  pub sent : Sent job (links job) (net .last) (net .before) (net .from) (net .delay)
-  pub within : j ≤ tasks job
-  pub is : placeTasks job j ≡ placed (rowOf cs)
-  pub held : Held job j cs
+-- the primary's own test: it is on no node of the set `shut`, and starts no sooner than `least`
+unfoldable pub primaryFrom : ℕ → ℕ → Copy → Bool
+primaryFrom least shut p = not (has shut (p .node)) and leb least (p .start)
+
+-- the copies of the first m tasks stand on the chains of their nodes
+abbrev pub Laid : ℕ → Copies → List ℕ → List ℕ → Type 0
+Laid m cs before last = Chained (nodeAt (cs .node)) maxNodes copyCount (2 * m) last before
+
+-- what is placed: the copies of the first m tasks
+pub record Beside (job : Job) (m : ℕ) (cs : Copies) (before last : List ℕ) : Type 0 where
+  pub few : m ≤ maxTasks
+  pub held : Held job m cs
   pub whole : Whole cs
   pub soon : (k : ℕ) → getD (cs .finish) k 0 ≤ maxStart + maxTime
-  pub chained : Chained (nodeAt (cs .node)) maxNodes copyCount (2 * j) last before
+  pub laid : Laid m cs before last
+
+-- what is wanted with the primary anywhere
+abbrev pub wantOf : ℕ → Task → List Node → ℕ → ℕ → Want
+wantOf j task nodes count into = record { number = j; task = task; nodes = nodes; count = count; into = into; least = 0; shut = 0 }
+
+-- what is wanted is a task of some job, whose links stand so by receiver, beside the first `rows` tasks; its senders are among them
+pub record Wanted (next from delay : List ℕ) (cs : Copies) (before last : List ℕ) (want : Want) : Type 0 where
+  pub job : Job
+  pub rows : ℕ
+  pub sound : Sound job
+  pub task-of : want .number < tasks job
+  pub task-is : want .task ≡ task job (want .number)
+  pub nodes-are : want .nodes ≡ job .nodes
+  pub count-is : want .count ≡ nodes job
+  pub into : Into job next from delay (want .number) (want .into)
+  pub fed : (k : ℕ) → k < links job → link job k .to ≡ want .number → link job k .from < rows
+  pub least-most : want .least ≤ latestInput
+  pub beside : Beside job rows cs before last
+
+-- both copies as a row, or the refusal
+abbrev pub pairRow : Pair → Row
+pairRow x = record { primary = x .primary; backup = x .backup; faults = has (x .set) }
+
+unfoldable pub attempted : Placing → Attempt Row
+attempted (At x) = placed (pairRow x)
+attempted (Nowhere r) = refused r
+
+-- the pair can be stored as task j
+pub record Bookable (cs : Copies) (j : ℕ) (x : Pair) : Type 0 where
+  pub whole : Whole cs
+  pub room : 2 * j + 1 < copyCount
+  pub primary : x .primary .node < maxNodes
+  pub backup : x .backup .node < maxNodes
+
+-- r is the table with it, and the chains have it too
+pub record Booked (j : ℕ) (x : Pair) (cs : Copies) (before last : List ℕ) (r : Copies) (before' last' : List ℕ) : Type 0 where
+  pub whole : Whole r
+  pub primary : entry r (2 * j) ≡ x .primary
+  pub primary-set : setAt r (2 * j) ≡ everyNode
+  pub backup : entry r (2 * j + 1) ≡ x .backup
+  pub backup-set : setAt r (2 * j + 1) ≡ x .set
+  pub other : (k : ℕ) → (k ≡ 2 * j → ⊥) → (k ≡ 2 * j + 1 → ⊥) → entry r k ≡ entry cs k
+  pub other-set : (k : ℕ) → (k ≡ 2 * j → ⊥) → (k ≡ 2 * j + 1 → ⊥) → setAt r k ≡ setAt cs k
+  pub laid : Laid j cs before last → Laid (j + 1) r before' last'
+
+-- after the first j tasks, with the job's links by receiver
+pub record Planning (job : Job) (net : Net) (j : ℕ) (cs : Copies) (before last : List ℕ) : Type 0 where
+  pub sound : Sound job
+  pub sent : Sent (job .links) (links job) (net .last) (net .next) (net .from) (net .delay)
+  pub within : j ≤ tasks job
+  pub is : placeTasks job anywhere j ≡ placed (rowOf cs)
+  pub beside : Beside job j cs before last
 
 -- the places of the first n tasks, whose copies have these nodes and starts, and the plan that has them
 abbrev pub placeAt : List ℕ → List ℕ → ℕ → Place

@@ -1,8 +1,12 @@
 // When the inputs of a task are on each node.
+use crate::senders::sender_at;
+use copies::arrival::later;
+use copies::arrival::pick;
 use copies::arrival::ready_by;
 use copies::table::Copies;
 use reader::job::Job;
 ghost use mathlib.Core.Path.{_≡_};
+ghost use Rattle.copies.specs.Table.{table};
 ghost use Rattle.planner.specs.Senders.{Sending};
 ghost use Rattle.planner.specs.Inputs.{readyOn, fartherOf, Reached, Owned, Given};
 
@@ -17,22 +21,6 @@ pub struct Ready {
     pub node: u32,
     pub own: u32,
     pub all: u32,
-}
-
-// For the primary: results of primaries. For the backup: results of both copies.
-pub struct Reaches {
-    pub primary: Reach,
-    pub backup: Reach,
-}
-
-pub struct Owns {
-    pub primary: u32,
-    pub backup: u32,
-}
-
-pub struct Inputs {
-    pub primary: Ready,
-    pub backup: Ready,
 }
 
 pub fn ready_on(ready: Ready, n: u32) -> u32
@@ -54,87 +42,90 @@ pub fn farther(reach: Reach, from: u32, at: u32) -> Reach
     reach
 }
 
+// The latest arrival for a copy of this set, by the links whose chain begins at `last`. Each sender's primary counts, and its backup where
+// the two sets meet.
 pub fn farthest<'l, 'c>(
-    before: &'l [usize; Job::MAX_LINKS],
-    from: &'l [usize; Job::MAX_LINKS],
+    next: &'l [u32; Job::MAX_LINKS],
+    from: &'l [u32; Job::MAX_LINKS],
     delay: &'l [u32; Job::MAX_LINKS],
     node: &'c [u32; Copies::COUNT],
+    start: &'c [u32; Copies::COUNT],
     finish: &'c [u32; Copies::COUNT],
+    sets: &'c [u32; Copies::COUNT],
     last: usize,
-) -> Reaches
-    requires { ⌜ Sending (now before) (now from) (now delay) (now finish) last ⌝ }
-    ensures { λ r. ⌜ Reached (now (before .entry)) (now (from .entry)) (now (delay .entry)) (now (node .entry)) (now (finish .entry)) last r ⌝ }
+    set: u32,
+) -> Reach
+    requires { ⌜ Sending (now next) (now from) (now delay) (table (now node) (now start) (now finish) (now sets)) last ⌝ }
+    ensures { λ r. ⌜ Reached (now (next .entry)) (now (from .entry)) (now (delay .entry))
+        (table (now (node .entry)) (now (start .entry)) (now (finish .entry)) (now (sets .entry))) last set r ⌝ }
 {
-    let mut primary = Reach { at: 0, from: 0 };
-    let mut backup = Reach { at: 0, from: 0 };
+    let mut reach = Reach { at: 0, from: 0 };
     let mut left = last;
     while left != 0 {
-        let m = left - 1;
-        let k = 2 * from[m];
-        let d = delay[m];
-        primary = farther(primary, node[k], finish[k] + d);
-        let half = farther(backup, node[k], finish[k] + d);
-        backup = farther(half, node[k + 1], finish[k + 1] + d);
-        left = before[m];
+        let x = sender_at(next, from, delay, node, start, finish, sets, left - 1);
+        let p = x.primary;
+        let b = x.backup;
+        let half = farther(reach, p.node, p.finish + x.delay);
+        let late = pick(x.set & set != 0, b.finish + x.delay, 0);
+        reach = farther(half, b.node, late);
+        left = x.next;
     }
-    Reaches { primary, backup }
+    reach
 }
 
-// From when the inputs are on one node p for the primary, and on one node b for the backup.
-pub fn own_times<'l, 'c>(
-    before: &'l [usize; Job::MAX_LINKS],
-    from: &'l [usize; Job::MAX_LINKS],
+// From when the same inputs are on node `to`.
+pub fn own_time<'l, 'c>(
+    next: &'l [u32; Job::MAX_LINKS],
+    from: &'l [u32; Job::MAX_LINKS],
     delay: &'l [u32; Job::MAX_LINKS],
     node: &'c [u32; Copies::COUNT],
+    start: &'c [u32; Copies::COUNT],
     finish: &'c [u32; Copies::COUNT],
+    sets: &'c [u32; Copies::COUNT],
     last: usize,
-    p: u32,
-    b: u32,
-) -> Owns
-    requires { ⌜ Sending (now before) (now from) (now delay) (now finish) last ⌝ }
-    ensures { λ r. ⌜ Owned (now (before .entry)) (now (from .entry)) (now (delay .entry)) (now (node .entry)) (now (finish .entry)) last p b r ⌝ }
+    set: u32,
+    to: u32,
+) -> u32
+    requires { ⌜ Sending (now next) (now from) (now delay) (table (now node) (now start) (now finish) (now sets)) last ⌝ }
+    ensures { λ r. ⌜ Owned (now (next .entry)) (now (from .entry)) (now (delay .entry))
+        (table (now (node .entry)) (now (start .entry)) (now (finish .entry)) (now (sets .entry))) last set to r ⌝ }
 {
-    let mut primary: u32 = 0;
-    let mut backup: u32 = 0;
+    let mut own: u32 = 0;
     let mut left = last;
     while left != 0 {
-        let m = left - 1;
-        let k = 2 * from[m];
-        let d = delay[m];
-        primary = ready_by(primary, finish[k], d, node[k], p);
-        let half = ready_by(backup, finish[k], d, node[k], b);
-        backup = ready_by(half, finish[k + 1], d, node[k + 1], b);
-        left = before[m];
+        let x = sender_at(next, from, delay, node, start, finish, sets, left - 1);
+        let p = x.primary;
+        let b = x.backup;
+        let half = ready_by(own, p.finish, x.delay, p.node, to);
+        let late = ready_by(0, b.finish, x.delay, b.node, to);
+        own = later(half, pick(x.set & set != 0, late, 0));
+        left = x.next;
     }
-    Owns { primary, backup }
+    own
 }
 
-// From the senders of a task, the chain of whose links begins at `last`.
+// For a copy of this set, from when its inputs are on each node.
 pub fn gather<'l, 'c>(
-    before: &'l [usize; Job::MAX_LINKS],
-    from: &'l [usize; Job::MAX_LINKS],
+    next: &'l [u32; Job::MAX_LINKS],
+    from: &'l [u32; Job::MAX_LINKS],
     delay: &'l [u32; Job::MAX_LINKS],
     node: &'c [u32; Copies::COUNT],
+    start: &'c [u32; Copies::COUNT],
     finish: &'c [u32; Copies::COUNT],
+    sets: &'c [u32; Copies::COUNT],
     last: usize,
-) -> Inputs
-    requires { ⌜ Sending (now before) (now from) (now delay) (now finish) last ⌝ }
-    ensures { λ r. ⌜ Given (now (before .entry)) (now (from .entry)) (now (delay .entry)) (now (node .entry)) (now (finish .entry)) last r ⌝ }
+    set: u32,
+) -> Ready
+    requires { ⌜ Sending (now next) (now from) (now delay) (table (now node) (now start) (now finish) (now sets)) last ⌝ }
+    ensures { λ r. ⌜ Given (now (next .entry)) (now (from .entry)) (now (delay .entry))
+        (table (now (node .entry)) (now (start .entry)) (now (finish .entry)) (now (sets .entry))) last set r ⌝ }
 {
-    let far = farthest(before, from, delay, node, finish, last);
-    let p = far.primary;
-    let b = far.backup;
-    let own = own_times(before, from, delay, node, finish, last, p.from, b.from);
-    Inputs {
-        primary: Ready {
-            node: p.from,
-            own: own.primary,
-            all: p.at,
-        },
-        backup: Ready {
-            node: b.from,
-            own: own.backup,
-            all: b.at,
-        },
+    let far = farthest(next, from, delay, node, start, finish, sets, last, set);
+    let to = far.from;
+    let own = own_time(next, from, delay, node, start, finish, sets, last, set, to);
+    Ready {
+        node: to,
+        own,
+        all: far.at,
     }
 }

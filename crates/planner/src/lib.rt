@@ -1,16 +1,11 @@
 // The planner: for each task by number, the earliest finish for its primary and then for its backup.
-use crate::faults::fault_set;
-use crate::inputs::gather;
-use crate::places::backup_search;
 use crate::places::plan_of;
-use crate::places::primary_search;
-use crate::search::best_slot;
-use crate::senders::Senders;
-use crate::slot::Slot;
-use copies::chain::join;
-use copies::sets::ALL;
+use crate::senders::by_receiver;
+use crate::task::Placing;
+use crate::task::Want;
+use crate::task::book;
+use crate::task::place_task;
 use copies::table::Copies;
-use copies::table::put;
 use reader::job::Job;
 use reader::plan::Plan;
 use reader::refusal::Answer;
@@ -27,6 +22,7 @@ pub mod places;
 pub mod search;
 pub mod senders;
 pub mod slot;
+pub mod task;
 
 // Where it is refused the plan is empty.
 pub struct Planned {
@@ -49,8 +45,13 @@ pub fn plan_job(job: Job) -> Planned
     ensures { λ r. ⌜ r ≡ planned (planner job) ⌝ }
 {
     let n = job.task_count as usize;
-    let nodes = job.node_count as usize;
-    let s = Senders::of(job);
+    let count = job.node_count as usize;
+    let mut into = [0u32; Job::MAX_TASKS];
+    let mut next = [0u32; Job::MAX_LINKS];
+    let mut from = [0u32; Job::MAX_LINKS];
+    let mut delay = [0u32; Job::MAX_LINKS];
+    let m = job.link_count as usize;
+    by_receiver(job.links, m, &mut into, &mut next, &mut from, &mut delay);
     let mut node = [0u32; Copies::COUNT];
     let mut start = [0u32; Copies::COUNT];
     let mut finish = [0u32; Copies::COUNT];
@@ -59,27 +60,32 @@ pub fn plan_job(job: Job) -> Planned
     let mut last = [0usize; Job::MAX_NODES];
     let mut j: usize = 0;
     while j < n {
-        let task = job.tasks[j];
-        let into = s.last[j];
-        let given = gather(&s.before, &s.from, &s.delay, &node, &finish, into);
-        let first = primary_search(task, nodes, given);
-        let a = best_slot(&node, &start, &finish, &sets, &before, &last, first);
-        let Slot::At(p) = a else {
-            return unplanned(Refusal::NoPrimary(j));
-        };
-        let set = fault_set(&s.before, &s.from, &s.delay, &node, &finish, &sets, into, p);
-        let i = p.node as usize;
-        let w = job.nodes[i];
-        let second = backup_search(task, nodes, given, p.finish + w.detect, set);
-        let b = best_slot(&node, &start, &finish, &sets, &before, &last, second);
-        let Slot::At(q) = b else {
-            return unplanned(Refusal::NoBackup(j));
-        };
-        let k = 2 * j;
-        put(&mut node, &mut start, &mut finish, &mut sets, k, p, ALL);
-        put(&mut node, &mut start, &mut finish, &mut sets, k + 1, q, set);
-        join(&mut before, &mut last, k, p.node);
-        join(&mut before, &mut last, k + 1, q.node);
+        let want = Want::of(j, job.tasks[j], job.nodes, count, into[j] as usize);
+        let x = place_task(
+            &next,
+            &from,
+            &delay,
+            &node,
+            &start,
+            &finish,
+            &sets,
+            &before,
+            &last,
+            want,
+        );
+        match x {
+            Placing::Nowhere(r) => return unplanned(r),
+            Placing::At(pair) => book(
+                &mut node,
+                &mut start,
+                &mut finish,
+                &mut sets,
+                &mut before,
+                &mut last,
+                j,
+                pair,
+            ),
+        }
         j += 1;
     }
     Planned {

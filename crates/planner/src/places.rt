@@ -1,5 +1,5 @@
 // The searches for a task's copies, and the plan of all.
-use crate::inputs::Inputs;
+use crate::inputs::Ready;
 use crate::search::Search;
 use copies::sets::ALL;
 use copies::table::Copies;
@@ -12,24 +12,22 @@ ghost use Rattle.reader.specs.Limits.{maxTasks};
 ghost use Rattle.planner.specs.Search.{primarySearch, backupSearch};
 ghost use Rattle.planner.specs.Tasks.{listed, placesTo};
 
-pub fn primary_search(task: Task, nodes: usize, given: Inputs) -> Search
-    ensures { λ r. ⌜ r ≡ primarySearch task nodes (given .primary) ⌝ }
+pub fn primary_search(task: Task, nodes: usize, ready: Ready, least: u32, shut: u32) -> Search
+    ensures { λ r. ⌜ r ≡ primarySearch task nodes ready least shut ⌝ }
 {
-    let ready = given.primary;
     Search {
         task,
         nodes,
         ready,
-        least: 0,
+        least,
         set: ALL,
-        barred: 0,
+        barred: shut,
     }
 }
 
-pub fn backup_search(task: Task, nodes: usize, given: Inputs, least: u32, faults: u32) -> Search
-    ensures { λ r. ⌜ r ≡ backupSearch task nodes (given .backup) least faults ⌝ }
+pub fn backup_search(task: Task, nodes: usize, ready: Ready, least: u32, faults: u32) -> Search
+    ensures { λ r. ⌜ r ≡ backupSearch task nodes ready least faults ⌝ }
 {
-    let ready = given.backup;
     Search {
         task,
         nodes,

@@ -15,7 +15,7 @@ use rules::Copy;
 ghost use mathlib.Core.Path.{_≡_};
 ghost use Prim.Native.Nat.{suc, _≤_};
 ghost use Rattle.copies.specs.Table.{table};
-ghost use Rattle.planner.specs.Inputs.{latestInput};
+ghost use Rattle.planner.specs.Senders.{latestInput};
 ghost use Rattle.planner.specs.Search.{slotCopy, startedAt, onNode, freeFrom, fits, bestOf, Asked, Searched};
 
 // What is asked of one node: a place for a copy of this set, that runs so long and finishes below, beside the entries whose chain
@@ -51,7 +51,8 @@ pub fn first_free<'c>(
 ) -> u32
     requires { ⌜ Asked (table (now node) (now start) (now finish) (now sets)) (now before) ask from ⌝ }
     ensures { λ r. ⌜ r ≤ latestInput ⌝ }
-    ensures { λ r. ⌜ startedAt (ask .node) (ask .run) (ask .below) r ≡ onNode (ask .node) (ask .run) (ask .below) (freeFrom (table (now (node .entry)) (now (start .entry)) (now (finish .entry)) (now (sets .entry))) (ask .set) (ask .last) from) ⌝ }
+    ensures { λ r. ⌜ startedAt (ask .node) (ask .run) (ask .below) r ≡ onNode (ask .node) (ask .run) (ask .below)
+        (freeFrom (table (now (node .entry)) (now (start .entry)) (now (finish .entry)) (now (sets .entry))) (ask .set) (ask .last) from) ⌝ }
 {
     let run = ask.run;
     let below = ask.below;
@@ -82,7 +83,8 @@ pub fn best_slot<'c>(
     search: Search,
 ) -> Slot
     requires { ⌜ Searched (table (now node) (now start) (now finish) (now sets)) (now before) (now last) search ⌝ }
-    ensures { λ r. ⌜ slotCopy r ≡ bestOf (search .task .run) (suc (search .task .deadline)) (fits (table (now (node .entry)) (now (start .entry)) (now (finish .entry)) (now (sets .entry))) (now (last .entry)) search) (search .nodes) ⌝ }
+    ensures { λ r. ⌜ slotCopy r ≡ bestOf (search .task .run) (suc (search .task .deadline))
+        (fits (table (now (node .entry)) (now (start .entry)) (now (finish .entry)) (now (sets .entry))) (now (last .entry)) search) (search .nodes) ⌝ }
 {
     let task = search.task;
     let ready = search.ready;

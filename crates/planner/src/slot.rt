@@ -8,7 +8,7 @@ ghost use lib.Dec.{ltb};
 ghost use Rattle.reader.specs.Tests.{_and_};
 ghost use Rattle.reader.specs.Limits.{maxNodes, maxTime};
 ghost use Rattle.copies.specs.Sets.{has};
-ghost use Rattle.planner.specs.Inputs.{latestInput};
+ghost use Rattle.planner.specs.Senders.{latestInput};
 ghost use Rattle.planner.specs.Search.{slotCopy, noPlace, soonerOf, placeBy};
 
 pub enum Slot {

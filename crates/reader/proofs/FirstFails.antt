@@ -1,22 +1,16 @@
 -- Where `first` of failing tests finds its answer: at the first place that fails, and at the first pair.
 use Prim.Native.Nat.{ℕ, _<_}
-use mathlib.Core.Bool.{Bool, true, false}
+use mathlib.Core.Bool.{Bool, true}
 use mathlib.Core.Path.{_≡_, refl, sym, subst}
 use mathlib.Core.Option.{none, some}
-use mathlib.Core.Logic.{_↔_, _⊎_, inl, inr, ⊎-elim}
+use mathlib.Core.Logic.{_↔_, inl, inr, ⊎-elim}
 use lib.Dec.{ltb}
 use borrow.Author.Tests.{lt-ltb, ltb-true}
 use native.Mathlib.Omega.{arith}
 use Rattle.reader.specs.Tests.{_implies_}
-use Rattle.reader.specs.First.{first, unless}
+use Rattle.reader.specs.First.{first, unless, FirstFail, FirstPairFail}
 use Rattle.reader.proofs.TestLaws.{imp-e, imp-i, imp-x, imp-fails}
 use Rattle.reader.proofs.FirstLaws.{first-none, none-first, first-some, some-first, unless-none, none-unless, unless-some, unless-is, some-unless}
-
--- k is the first number below n that fails the test
-pub record FirstFail (n : ℕ) (test : ℕ → Bool) (k : ℕ) : Type 0 where
-  pub below : k < n
-  pub fails : test k ≡ false
-  pub before : (i : ℕ) → i < k → test i ≡ true
 
 module _ {A : Type 0} (n : ℕ) (test : ℕ → Bool) (answer : ℕ → A) where
   pub no-fail : (first n (λ i. unless (test i) (answer i)) ≡ none) ↔ ((i : ℕ) → i < n → test i ≡ true)
@@ -45,13 +39,6 @@ module _ {A : Type 0} (n : ℕ) (test : ℕ → Bool) (answer : ℕ → A) where
           least = λ i p. none-unless (test i) (answer i) (w .1 .before i p);
         }),
   )
-
--- i and j are the first pair below n, the lower first, that fails the test: by the lower, then by the higher
-pub record FirstPairFail (n : ℕ) (test : ℕ → ℕ → Bool) (i j : ℕ) : Type 0 where
-  pub rises : i < j
-  pub below : j < n
-  pub fails : test i j ≡ false
-  pub before : (a b : ℕ) → a < b → b < n → (a < i) ⊎ ((a ≡ i) × (b < j)) → test a b ≡ true
 
 module _ {A : Type 0} (n : ℕ) (test : ℕ → ℕ → Bool) (answer : ℕ → ℕ → A) where
   pub no-pair-fail : (first n (λ i. first n λ j. unless (ltb i j implies test i j) (answer i j)) ≡ none)

@@ -14,18 +14,15 @@ use Rattle.reader.specs.First.{_or-else_, first, unless}
 use Rattle.reader.specs.Limits.{fileVersion, minNodes, maxNodes, maxDetect, minTasks, maxTasks, minDeadline, maxLinks, maxTime, maxStart}
 use Rattle.reader.specs.Entries.{tasks}
 use Rattle.reader.specs.Sound.{Sound}
-use Rattle.reader.specs.Refusals.{told, tell, Fits}
+use Rattle.reader.specs.Refusals.{told, tell, Fits, FaultFits}
 use Rattle.reader.specs.Number.{numberAt, fieldFault, versionFault, countFault, valueFault}
-use Rattle.reader.specs.JobFile.{nodeSection, taskSection, linkSection, jobLength, nodeCount, taskCount, linkCount, nodesFault, runFault, taskFault, tasksFault, linkFault, linksFault, tailFault, jobFault}
+use Rattle.reader.specs.JobFile.{nodeSection, taskSection, linkSection, jobLength, nodeCount, taskCount, linkCount}
+use Rattle.reader.specs.JobFile.{nodesFault, runFault, taskFault, tasksFault, linkFault, linksFault, tailFault, jobFault}
 use Rattle.reader.specs.PlanFile.{nodeFault, placeFault, placesFault, planLength, planFault}
 use Rattle.reader.proofs.TestLaws.{never}
 use Rattle.reader.proofs.FieldLaws.{field-good}
 use Rattle.reader.proofs.Accepted.{nodes-good, tasks-good, links-good}
 use Rattle.reader.proofs.LengthLaws.{link-section-most, job-length-most}
-
--- a refusal, if there is one, fits
-abbrev pub FaultFits : Option Refusal → Type 0
-FaultFits o = (r : Refusal) → o ≡ some r → Fits (tell r)
 
 pub fits-none : FaultFits none
 fits-none r e = never (cc)

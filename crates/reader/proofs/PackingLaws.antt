@@ -4,7 +4,9 @@ use native.Mathlib.Nat.{mod-eq-of-lt}
 use native.Mathlib.Omega.{arith}
 use mathlib.Core.Path.{_≡_, refl, sym, ap, _∙_}
 use Rattle.reader.specs.declared.refusal.Refusal.{Refusal}
-use Rattle.reader.specs.declared.refusal.Refusal.the-variants.{Short, Version, Count, Value, LinkOrder, Tail, Unable, SameNode, Early, Late, PrimaryUnfed, BackupUnfed, CommonLoss, Overlap, NoPrimary, NoBackup, ShortBuffer, NoSuchNode}
+use Rattle.reader.specs.declared.refusal.Refusal.the-variants.{Short, Version, Count, Value, LinkOrder, Tail, Unable, SameNode, Early, Late}
+use Rattle.reader.specs.declared.refusal.Refusal.the-variants.{PrimaryUnfed, BackupUnfed, CommonLoss, Overlap}
+use Rattle.reader.specs.declared.refusal.Refusal.the-variants.{NoPrimary, NoBackup, ShortBuffer, NoSuchNode}
 use Rattle.reader.specs.declared.refusal.Answer.{Answer}
 use Rattle.reader.specs.declared.refusal.Answer.the-variants.{Done, Refused}
 use Rattle.reader.specs.Refusals.{Told, told, tell, packed, result, Fits}
@@ -12,7 +14,7 @@ use Rattle.reader.specs.Refusals.{Told, told, tell, packed, result, Fits
 -- packing without the remainders
 packed-sum : (t : Told) → Fits t → packed t ≡ t .number + 2 ^ 8 * t .first + 2 ^ 40 * t .second
 unfolding packed
-packed-sum t f = rw (mod-eq-of-lt (f .number), mod-eq-of-lt (f .first), mod-eq-of-lt (f .second))
+packed-sum t f = omega arith
 
 sums : (n a b : ℕ) → n < 2 ^ 8 → a < 2 ^ 32 →
     ((n + 2 ^ 8 * a + 2 ^ 40 * b) % 2 ^ 8 ≡ n) × ((n + 2 ^ 8 * a + 2 ^ 40 * b) / 2 ^ 8 % 2 ^ 32 ≡ a) × ((n + 2 ^ 8 * a + 2 ^ 40 * b) / 2 ^ 40 ≡ b)

@@ -15,8 +15,8 @@ use Rattle.reader.specs.declared.refusal.Answer.the-variants.{Done}
 use Rattle.reader.specs.Limits.{minTasks, maxNodes, minDeadline, maxTime, maxStart}
 use Rattle.reader.specs.Entries.{nodes, tasks, task, link, place, emptyJob, emptyPlan}
 use Rattle.reader.specs.Sound.{below, Sound, PlanSound}
-use Rattle.reader.specs.JobFile.{nodeCount, taskCount, linkCount, taskAt, linkAt, linkBefore, jobFault, jobAt, unlessFault, readJob}
-use Rattle.reader.specs.PlanFile.{placeAt, planFault, planAt, readPlan}
+use Rattle.reader.specs.JobFile.{nodeCount, taskCount, linkCount, taskAt, linkAt, linkBefore, jobFault, jobAt, unlessFault, readJob, JobDone}
+use Rattle.reader.specs.PlanFile.{placeAt, planFault, planAt, readPlan, PlanDone}
 use Rattle.reader.proofs.RefusalLaws.{answered-done}
 use Rattle.reader.proofs.Accepted.{GoodTask, GoodLink, GoodJob, GoodPlace, GoodPlan, job-good, plan-good}
 use Rattle.reader.proofs.EntryLaws.{detect-at, run-at, task-at, link-at, place-at}
@@ -126,22 +126,12 @@ plan-sound s job h e =
     }
 
 -- the same of what the functions give
-pub record JobDone (s : List ℕ) : Type 0 where
-  pub fault : jobFault s ≡ none
-  pub job : readJob s .job ≡ jobAt s
-  pub sound : Sound (readJob s .job)
-
 pub job-done : (s : List ℕ) → readJob s .answer ≡ Done → JobDone s
 unfolding readJob
 job-done s d =
     let e = answered-done (jobFault s) .0 d in
     let j = none-value (jobFault s) (jobAt s) emptyJob e in
     record { fault = e; job = j; sound = rw j (job-sound s e) }
-
-pub record PlanDone (s : List ℕ) (job : Job) : Type 0 where
-  pub fault : planFault s job ≡ none
-  pub plan : readPlan s job .plan ≡ planAt s (tasks job)
-  pub sound : PlanSound job (readPlan s job .plan)
 
 pub plan-done : (s : List ℕ) (job : Job) → Sound job → readPlan s job .answer ≡ Done → PlanDone s job
 unfolding readPlan

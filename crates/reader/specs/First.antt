@@ -1,8 +1,10 @@
 -- The first answer in an order: tests that follow each other, searches and loops are all made of it.
-use Prim.Native.Nat.{ℕ, zero, suc}
+use Prim.Native.Nat.{ℕ, zero, suc, _<_}
 use mathlib.Core.Bool.{Bool, true, false, not}
 use mathlib.Core.List.{List}
+use mathlib.Core.Logic.{_⊎_}
 use mathlib.Core.Option.{Option, none, some}
+use mathlib.Core.Path.{_≡_}
 use lib.ListN.{set}
 
 module _ {A : Type 0} where
@@ -42,3 +44,16 @@ any n t = not (every n (λ i. not (t i)))
 unfoldable pub fill : {A : Type 0} → ℕ → (ℕ → A) → List A → List A
 fill zero f l = l
 fill (suc n) f l = set (fill n f l) n (f n)
+
+-- k is the first number below n that fails the test
+pub record FirstFail (n : ℕ) (test : ℕ → Bool) (k : ℕ) : Type 0 where
+  pub below : k < n
+  pub fails : test k ≡ false
+  pub before : (i : ℕ) → i < k → test i ≡ true
+
+-- i and j are the first pair below n, the lower first, that fails the test: by the lower, then by the higher
+pub record FirstPairFail (n : ℕ) (test : ℕ → ℕ → Bool) (i j : ℕ) : Type 0 where
+  pub rises : i < j
+  pub below : j < n
+  pub fails : test i j ≡ false
+  pub before : (a b : ℕ) → a < b → b < n → (a < i) ⊎ ((a ≡ i) × (b < j)) → test a b ≡ true

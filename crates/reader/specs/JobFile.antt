@@ -2,6 +2,7 @@
 use Prim.Native.Nat.{ℕ, zero, suc, _+_, _-_, _*_}
 use mathlib.Core.List.{List}
 use mathlib.Core.Option.{Option, none, some}
+use mathlib.Core.Path.{_≡_}
 use lib.Dec.{leb}
 use lib.ListN.{length, replicate}
 use Rattle.reader.specs.declared.job.Node.{Node}
@@ -16,7 +17,7 @@ use Rattle.reader.specs.Limits.{minNodes, maxNodes, maxDetect, minTasks,
 use Rattle.reader.specs.Entries.{noNode, blankTask, noLink, emptyJob}
 use Rattle.reader.specs.Number.{numberAt, versionFault, countFault, valueFault}
 use Rattle.reader.specs.Refusals.{answered}
-use Rattle.reader.specs.Sound.{below}
+use Rattle.reader.specs.Sound.{below, Sound}
 
 -- where the sections begin, each with its count: behind the version, p nodes, n tasks, m links
 abbrev pub nodeSection : ℕ
@@ -125,3 +126,9 @@ unlessFault (some r) a b = b
 -- what reading a job file gives: the answer, and the job, which is empty on a refusal
 unfoldable pub readJob : List ℕ → JobRead
 readJob s = record { answer = answered (jobFault s); job = unlessFault (jobFault s) (jobAt s) emptyJob }
+
+-- of a job file that is read: no fault, the job in it, and what reading promises
+pub record JobDone (s : List ℕ) : Type 0 where
+  pub fault : jobFault s ≡ none
+  pub job : readJob s .job ≡ jobAt s
+  pub sound : Sound (readJob s .job)

@@ -8,3 +8,4 @@ pub mod Number
 pub mod Reads
 pub mod JobFile
 pub mod PlanFile
+pub mod Samples

@@ -1,7 +1,8 @@
 -- A plan file after its job: its first fault in file order, and the plan, each number where it stands.
 use Prim.Native.Nat.{ℕ, _+_, _-_, _*_}
 use mathlib.Core.List.{List}
-use mathlib.Core.Option.{Option}
+use mathlib.Core.Option.{Option, none}
+use mathlib.Core.Path.{_≡_}
 use lib.Dec.{ltb}
 use lib.ListN.{getD, replicate}
 use Rattle.reader.specs.declared.job.Job.{Job}
@@ -15,6 +16,7 @@ use Rattle.reader.specs.Limits.{maxTasks, maxStart}
 use Rattle.reader.specs.Entries.{nodes, tasks, task, noPlace, emptyPlan}
 use Rattle.reader.specs.Number.{numberAt, versionFault, countFault, valueFault}
 use Rattle.reader.specs.Refusals.{answered}
+use Rattle.reader.specs.Sound.{PlanSound}
 use Rattle.reader.specs.JobFile.{tailFault, unlessFault}
 
 -- 'Nodes are below P'; 7, 'run time 0 on a planned node', for a task of these run times
@@ -63,3 +65,9 @@ planAt s n = record { version = numberAt s 0; «task_count» = numberAt s 4; pla
 unfoldable pub readPlan : List ℕ → Job → PlanRead
 readPlan s job =
     record { answer = answered (planFault s job); plan = unlessFault (planFault s job) (planAt s (tasks job)) emptyPlan }
+
+-- of a plan file that is read after its job: the same
+pub record PlanDone (s : List ℕ) (job : Job) : Type 0 where
+  pub fault : planFault s job ≡ none
+  pub plan : readPlan s job .plan ≡ planAt s (tasks job)
+  pub sound : PlanSound job (readPlan s job .plan)

@@ -1,8 +1,11 @@
 -- The table of document 01: the number and both places of each refusal, and the 8-byte result that holds them.
 use Prim.Native.Nat.{ℕ, _+_, _*_, _%_, _^_, _<_}
 use mathlib.Core.Option.{Option, none, some}
+use mathlib.Core.Path.{_≡_}
 use Rattle.reader.specs.declared.refusal.Refusal.{Refusal}
-use Rattle.reader.specs.declared.refusal.Refusal.the-variants.{Short, Version, Count, Value, LinkOrder, Tail, Unable, SameNode, Early, Late, PrimaryUnfed, BackupUnfed, CommonLoss, Overlap, NoPrimary, NoBackup, ShortBuffer, NoSuchNode}
+use Rattle.reader.specs.declared.refusal.Refusal.the-variants.{Short, Version, Count, Value, LinkOrder, Tail, Unable, SameNode, Early, Late}
+use Rattle.reader.specs.declared.refusal.Refusal.the-variants.{PrimaryUnfed, BackupUnfed, CommonLoss, Overlap}
+use Rattle.reader.specs.declared.refusal.Refusal.the-variants.{NoPrimary, NoBackup, ShortBuffer, NoSuchNode}
 use Rattle.reader.specs.declared.refusal.Answer.{Answer}
 pub use Rattle.reader.specs.declared.refusal.Told.{Told}
 use Rattle.reader.specs.declared.refusal.Answer.the-variants.{Done, Refused}
@@ -49,3 +52,7 @@ pub record Fits (t : Told) : Type 0 where
   pub number : t .number < 2 ^ 8
   pub first : t .first < 2 ^ 32
   pub second : t .second < 2 ^ 24
+
+-- a refusal, if there is one, fits
+abbrev pub FaultFits : Option Refusal → Type 0
+FaultFits o = (r : Refusal) → o ≡ some r → Fits (tell r)

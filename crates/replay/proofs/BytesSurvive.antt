@@ -1,9 +1,10 @@
 -- What replay writes of a plan that the judge passes: every task has exactly one finished copy, by its deadline.
-use Prim.Native.Nat.{ℕ, _+_, _*_, _^_, _<_}
+use Prim.Native.Nat.{ℕ, _+_, _*_, _^_, _≤_, _<_}
 use mathlib.Core.Bool.{not}
 use mathlib.Core.Logic.{inl, inr}
 use mathlib.Core.Path.{_≡_, refl, _∙_, ap}
-use lib.ListN.{getD}
+use mathlib.Core.List.{List, _++_}
+use lib.ListN.{length, getD, List·getD-append}
 use native.Mathlib.Omega.{arith}
 use Rattle.reader.specs.declared.job.Job.{Job}
 use Rattle.reader.specs.declared.plan.Plan.{Plan}
@@ -13,14 +14,14 @@ use Rattle.reader.specs.Number.{numberAt}
 use Rattle.reader.specs.Sound.{Sound, PlanSound}
 use Rattle.reader.proofs.TestLaws.{split}
 use Rattle.rules.specs.declared.Loss.{Loss}
-use Rattle.rules.specs.Rules.{rows}
+use Rattle.rules.specs.Rules.{Row, rows}
 use Rattle.rules.specs.Judge.{judge}
-use Rattle.rules.specs.Replay.{State, notStarted, cut, finished, isFinished, stateNumber, TaskRun, replay, finishOf}
-use Rattle.rules.specs.Survival.{LossOf}
+use Rattle.rules.specs.Replay.{State, notStarted, cut, finished, isFinished, stateNumber, TaskRun, replay}
+use Rattle.rules.specs.Survival.{LossOf, Survives}
 use Rattle.rules.proofs.PassedSurvives.{passed-survives}
 use Rattle.replay.specs.States.{outcome}
 use Rattle.replay.specs.Outcomes.{replayed, numbers, replayBytes}
-use Rattle.replay.specs.Survival.{OneFinished, BytesSurvive}
+use Rattle.replay.specs.Survival.{BytesTell, OneFinished, BytesSurvive}
 use Rattle.replay.proofs.StateLaws.{two-finished, two-not}
 use Rattle.replay.proofs.PairLaws.{finish-most}
 use Rattle.replay.proofs.PackLaws.{row-number}
@@ -36,36 +37,50 @@ one-of x h =
     (λ e. inl (two-finished (x .primary) e, two-not (x .backup) (rw e at h)))
     (λ e. inr (two-not (x .primary) e, two-finished (x .backup) (rw e at h)))
 
--- the numbers of task j, where they stand
-module _ (job : Job) (plan : Plan) (loss : Loss) (both : Sound job × PlanSound job plan) (j : ℕ) (below : j < tasks job) where
-  number-there : (k at : ℕ) → k < 3 → at ≡ 12 * j + 4 * k → getD (numbers (replayed job plan loss j)) k 0 < 2 ^ 32
+-- the numbers of each task, where they stand
+module _ (job : Job) (plan : Plan) (loss : Loss) (both : Sound job × PlanSound job plan) where
+  number-there : (j : ℕ) → j < tasks job → (k at : ℕ) → k < 3 → at ≡ 12 * j + 4 * k → getD (numbers (replayed job plan loss j)) k 0 < 2 ^ 32
       → numberAt (replayBytes job plan loss) at ≡ getD (numbers (replayed job plan loss j)) k 0
   unfolding replayBytes
-  number-there k at p e small =
+  number-there j below k at p e small =
       ap (λ n. numberAt (replayBytes job plan loss) n) e
       ∙ row-number (λ j. numbers (replayed job plan loss j)) (λ j. refl) (tasks job) j k below p small
 
-  pub primary-there : numberAt (replayBytes job plan loss) (12 * j) ≡ stateNumber (replay job plan loss j .primary)
+  pub bytes-tell : BytesTell job (rows job plan) (replay job plan loss) (replayBytes job plan loss)
   unfolding outcome
-  primary-there = number-there 0 (12 * j) (omega arith) (omega arith) (state-small (replay job plan loss j .primary))
+  bytes-tell = record {
+    primary = λ j p. number-there j p 0 (12 * j) (omega arith) (omega arith) (state-small (replay job plan loss j .primary));
+    backup = λ j p. number-there j p 1 (12 * j + 4) (omega arith) (omega arith) (state-small (replay job plan loss j .backup));
+    finish = λ j p.
+        let most = finish-most job plan both j p (replay job plan loss j) in
+        number-there j p 2 (12 * j + 8) (omega arith) (omega arith) (omega (arith, most));
+  }
 
-  pub backup-there : numberAt (replayBytes job plan loss) (12 * j + 4) ≡ stateNumber (replay job plan loss j .backup)
-  unfolding outcome
-  backup-there = number-there 1 (12 * j + 4) (omega arith) (omega arith) (state-small (replay job plan loss j .backup))
+-- the numbers at a buffer's front are those of what stands there
+number-front : (s rest : List ℕ) (at : ℕ) → at + 4 ≤ length s → numberAt (s ++ rest) at ≡ numberAt s at
+unfolding numberAt
+number-front s rest at h =
+    let same : (i : ℕ) → i < at + 4 → getD (s ++ rest) i 0 ≡ getD s i 0 = λ i p. List·getD-append s rest 0 i (omega arith) in
+    rw (same at (omega arith), same (at + 1) (omega arith), same (at + 2) (omega arith), same (at + 3) (omega arith))
 
-  pub finish-there : numberAt (replayBytes job plan loss) (12 * j + 8) ≡ finishOf (rows job plan j) (replay job plan loss j)
-  unfolding outcome
-  finish-there =
-      number-there 2 (12 * j + 8) (omega arith) (omega arith) (omega (arith, finish-most job plan both j below (replay job plan loss j)))
+module _ (job : Job) (t : ℕ → Row) (x : ℕ → TaskRun) (s : List ℕ) where
+  pub front-tells : (rest : List ℕ) → length s ≡ 12 * tasks job → BytesTell job t x s → BytesTell job t x (s ++ rest)
+  front-tells rest l b = record {
+    primary = λ j p. number-front s rest (12 * j) (omega (arith, l)) ∙ b .primary j p;
+    backup = λ j p. number-front s rest (12 * j + 4) (omega (arith, l)) ∙ b .backup j p;
+    finish = λ j p. number-front s rest (12 * j + 8) (omega (arith, l)) ∙ b .finish j p;
+  }
+
+  -- bytes that tell a run that survives
+  pub tells-survive : (loss : Loss) → BytesTell job t x s → Survives job t loss x → BytesSurvive job s
+  tells-survive loss b h = record {
+    one-finished = λ j p. rw (b .primary j p, b .backup j p) (one-of (x j) (h .one-finished j p));
+    finish-least = λ j p. rw (b .finish j p) (h .finish-least j p);
+    finish-most = λ j p. rw (b .finish j p) (h .finish-most j p);
+  }
 
 -- demand 3, as replay's bytes show it
 pub bytes-survive : (job : Job) (plan : Plan) → Sound job → PlanSound job plan → judge job plan ≡ Done
     → (loss : Loss) → LossOf job loss → BytesSurvive job (replayBytes job plan loss)
 bytes-survive job plan sound plan-sound passed loss of-job =
-    let both : Sound job × PlanSound job plan = (sound, plan-sound) in
-    let s = passed-survives job plan sound plan-sound passed loss of-job in
-    record {
-      one-finished = λ j p. rw (primary-there job plan loss both j p, backup-there job plan loss both j p) (one-of (replay job plan loss j) (s .one-finished j p));
-      finish-least = λ j p. rw (finish-there job plan loss both j p) (s .finish-least j p);
-      finish-most = λ j p. rw (finish-there job plan loss both j p) (s .finish-most j p);
-    }
+    tells-survive job _ _ _ loss (bytes-tell job plan loss (sound, plan-sound)) (passed-survives job plan sound plan-sound passed loss of-job)

@@ -6,6 +6,14 @@ use mathlib.Core.Path.{_≡_}
 use Rattle.reader.specs.declared.job.Job.{Job}
 use Rattle.reader.specs.Entries.{tasks, deadline}
 use Rattle.reader.specs.Number.{numberAt}
+use Rattle.rules.specs.Rules.{Row}
+use Rattle.rules.specs.Replay.{stateNumber, TaskRun, finishOf}
+
+-- 'Per task replay writes three numbers: primary and backup .., and the finish of the finished copy': s tells the run x of the rows t
+pub record BytesTell (job : Job) (t : ℕ → Row) (x : ℕ → TaskRun) (s : List ℕ) : Type 0 where
+  pub primary : (j : ℕ) → j < tasks job → numberAt s (12 * j) ≡ stateNumber (x j .primary)
+  pub backup : (j : ℕ) → j < tasks job → numberAt s (12 * j + 4) ≡ stateNumber (x j .backup)
+  pub finish : (j : ℕ) → j < tasks job → numberAt s (12 * j + 8) ≡ finishOf (t j) (x j)
 
 -- '2 for exactly one of primary and backup'
 abbrev pub OneFinished : ℕ → ℕ → Type 0

@@ -1,5 +1,5 @@
 -- Laws of copies: what overlap says, and how long a delay can be.
-use Prim.Native.Nat.{ℕ, _≤_, _<_, max, min}
+use Prim.Native.Nat.{ℕ, max, min}
 use mathlib.Core.Bool.{true}
 use mathlib.Core.Path.{_≡_}
 use mathlib.Core.Logic.{_↔_}
@@ -7,11 +7,7 @@ use borrow.Author.Tests.{lt-ltb, ltb-true, eqb-true, eq-eqb}
 use native.Mathlib.Omega.{arith}
 use Rattle.reader.proofs.TestLaws.{and-l, and-r, and-i}
 use Rattle.rules.specs.declared.Copy.{Copy}
-use Rattle.rules.specs.Copies.{overlap, delay}
-
--- 'It holds its node from its start up to, but not including, its finish.'
-abbrev pub HeldBy : Copy → ℕ → Type 0
-HeldBy c tick = (c .start ≤ tick) × (tick < c .finish)
+use Rattle.rules.specs.Copies.{HeldBy, overlap}
 
 pub overlap-i : (c d : Copy) (tick : ℕ) → c .node ≡ d .node → HeldBy c tick → HeldBy d tick → overlap c d ≡ true
 unfolding overlap

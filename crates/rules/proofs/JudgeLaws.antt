@@ -1,52 +1,23 @@
 -- What the judge's answer says: passed is every rule everywhere, and a refusal names the first breach in document 01's order.
 use Prim.Native.Nat.{ℕ, zero, suc, _+_, _<_}
-use mathlib.Core.Bool.{Bool, true}
 use mathlib.Core.Path.{_≡_, sym, _∙_}
-use mathlib.Core.List.{[], _∷_}
-use mathlib.Core.Option.{Option, none, some}
+use mathlib.Core.Option.{none, some}
 use mathlib.Core.Logic.{_↔_}
 use lib.Dec.{lit<}
-use lib.ListN.{getD}
 use native.Mathlib.Omega.{arith}
 use Rattle.reader.specs.declared.job.Job.{Job}
-use Rattle.reader.specs.declared.job.Link.{Link}
 use Rattle.reader.specs.declared.plan.Plan.{Plan}
 use Rattle.reader.specs.declared.refusal.Refusal.{Refusal}
-use Rattle.reader.specs.declared.refusal.Refusal.the-variants.{SameNode, Early, Late, PrimaryUnfed, BackupUnfed, CommonLoss, Overlap}
 use Rattle.reader.specs.declared.refusal.Answer.the-variants.{Done, Refused}
 use Rattle.reader.specs.First.{_or-else_, first}
-use Rattle.reader.specs.Entries.{tasks, links, link}
+use Rattle.reader.specs.Entries.{tasks, links}
 use Rattle.reader.specs.Refusals.{tell}
 use Rattle.reader.proofs.FirstLaws.{first-none, none-first, first-some, some-first, or-else-join}
-use Rattle.reader.proofs.FirstFails.{FirstFail, no-fail, first-fail, FirstPairFail, no-pair-fail, first-pair-fail}
+use Rattle.reader.proofs.FirstFails.{no-fail, first-fail, no-pair-fail, first-pair-fail}
 use Rattle.reader.proofs.RefusalLaws.{answered-done, answered-refused}
-use Rattle.rules.specs.Rules.{Row, rows, ruleA, ruleB, ruleC, ruleD, ruleE, ruleF, ruleG}
+use Rattle.rules.specs.Rules.{Row, rows}
 use Rattle.rules.specs.Judge.{firstTask, firstLink, firstPair, breach, judge}
-
--- a rule, what it is tried on, and the refusal of what breaks it
-pub data Check : Type 0 where
-  onTasks : (ℕ → Refusal) → (ℕ → Bool) → Check
-  onLinks : (ℕ → ℕ → Refusal) → (Link → Bool) → Check
-  onPairs : (ℕ → ℕ → Refusal) → (ℕ → ℕ → Bool) → Check
-
--- the refusal that a check finds
-abbrev pub found : Job → Check → Option Refusal
-found job (onTasks refusal rule) = firstTask job refusal rule
-found job (onLinks refusal rule) = firstLink job refusal rule
-found job (onPairs refusal rule) = firstPair job refusal rule
-
--- its rule holds at every task, link or pair
-abbrev pub Everywhere : Job → Check → Type 0
-Everywhere job (onTasks refusal rule) = (j : ℕ) → j < tasks job → rule j ≡ true
-Everywhere job (onLinks refusal rule) = (k : ℕ) → k < links job → rule (link job k) ≡ true
-Everywhere job (onPairs refusal rule) = (i j : ℕ) → i < j → j < tasks job → rule i j ≡ true
-
--- r names the first task, link or pair that breaks its rule
-abbrev pub Broken : Job → Check → Refusal → Type 0
-Broken job (onTasks refusal rule) r = (j : ℕ) × FirstFail (tasks job) rule j × (refusal j ≡ r)
-Broken job (onLinks refusal rule) r =
-    (k : ℕ) × FirstFail (links job) (λ k. rule (link job k)) k × (refusal (link job k .from) (link job k .to) ≡ r)
-Broken job (onPairs refusal rule) r = (i : ℕ) × (j : ℕ) × FirstPairFail (tasks job) rule i j × (refusal i j ≡ r)
+use Rattle.rules.specs.Breach.{Check, onTasks, onLinks, onPairs, found, Everywhere, Broken, check, Kept, FirstBreach}
 
 pub found-none : (job : Job) (c : Check) → (found job c ≡ none) ↔ Everywhere job c
 unfolding firstTask firstLink firstPair
@@ -59,20 +30,6 @@ unfolding firstTask firstLink firstPair
 found-some job (onTasks refusal rule) = first-fail (tasks job) rule refusal
 found-some job (onLinks refusal rule) = first-fail (links job) _ _
 found-some job (onPairs refusal rule) = first-pair-fail (tasks job) rule refusal
-
--- rule n of the seven in the judge's order, A being 0
-abbrev pub check : Job → (ℕ → Row) → ℕ → Check
-check job t n =
-    getD
-    (onTasks SameNode (λ j. ruleA job (t j))
-    ∷ onTasks Early (λ j. ruleB job (t j))
-    ∷ onTasks Late (λ j. ruleC job j (t j))
-    ∷ onLinks PrimaryUnfed (λ l. ruleD job l (t (l .from)) (t (l .to) .primary))
-    ∷ onLinks BackupUnfed (λ l. ruleE job l (t (l .from)) (t (l .to)))
-    ∷ onTasks CommonLoss (λ j. ruleF job (t j))
-    ∷ onPairs Overlap (λ i j. ruleG job (t i) (t j))
-    ∷ [])
-    n (onTasks SameNode (λ j. true))
 
 pub breach-first : (job : Job) (t : ℕ → Row) → first 7 (λ n. found job (check job t n)) ≡ breach job t
 unfolding breach first _or-else_
@@ -88,16 +45,6 @@ seven P a b c d e f g (suc (suc (suc (suc zero)))) p = e
 seven P a b c d e f g (suc (suc (suc (suc (suc zero))))) p = f
 seven P a b c d e f g (suc (suc (suc (suc (suc (suc zero)))))) p = g
 seven P a b c d e f g (suc (suc (suc (suc (suc (suc (suc n))))))) p = absurd (let z : ⊥ = omega arith in z)
-
--- every rule at every task, link and pair
-pub record Kept (job : Job) (t : ℕ → Row) : Type 0 where
-  pub a : (j : ℕ) → j < tasks job → ruleA job (t j) ≡ true
-  pub b : (j : ℕ) → j < tasks job → ruleB job (t j) ≡ true
-  pub c : (j : ℕ) → j < tasks job → ruleC job j (t j) ≡ true
-  pub d : (k : ℕ) → k < links job → ruleD job (link job k) (t (link job k .from)) (t (link job k .to) .primary) ≡ true
-  pub e : (k : ℕ) → k < links job → ruleE job (link job k) (t (link job k .from)) (t (link job k .to)) ≡ true
-  pub f : (j : ℕ) → j < tasks job → ruleF job (t j) ≡ true
-  pub g : (i j : ℕ) → i < j → j < tasks job → ruleG job (t i) (t j) ≡ true
 
 module _ (job : Job) (t : ℕ → Row) where
   kept-check : Kept job t → (n : ℕ) → n < 7 → Everywhere job (check job t n)
@@ -120,20 +67,12 @@ module _ (job : Job) (t : ℕ → Row) where
     λ k. sym (breach-first job t) ∙ first-none 7 _ (λ n p. found-none job (check job t n) .1 (kept-check k n p)),
   )
 
-  -- r's rule, of a number from 8 to 14, is broken first there, and the rules before it hold everywhere
-  pub record FirstBreach (r : Refusal) : Type 0 where
-    pub rule : ℕ
-    pub known : rule < 7
-    pub number : tell r .number ≡ 8 + rule
-    pub broken : Broken job (check job t rule) r
-    pub before : (n : ℕ) → n < rule → Everywhere job (check job t n)
-
   check-number : (r : Refusal) (n : ℕ) → n < 7 → Broken job (check job t n) r → tell r .number ≡ 8 + n
   check-number r =
       seven (λ n. Broken job (check job t n) r → tell r .number ≡ 8 + n)
       (λ w. rw (← w .2)) (λ w. rw (← w .2)) (λ w. rw (← w .2)) (λ w. rw (← w .2)) (λ w. rw (← w .2)) (λ w. rw (← w .2)) (λ w. rw (← w .3))
 
-  pub first-breach : (r : Refusal) → (breach job t ≡ some r) ↔ FirstBreach r
+  pub first-breach : (r : Refusal) → (breach job t ≡ some r) ↔ FirstBreach job t r
   first-breach r = (
     λ h.
         let hit = first-some 7 _ r (breach-first job t ∙ h) in

@@ -15,28 +15,29 @@ use Rattle.rules.specs.Planner.{primaryKeeps, backupKeeps}
 use Rattle.rules.proofs.LinkLaws.{every-into}
 
 -- 'keeping D and G against copies already placed'
-pub record PrimaryKept (job : Job) (before : ℕ → Row) (j : ℕ) (p : Copy) : Type 0 where
+pub record PrimaryKept (job : Job) (m : ℕ) (before : ℕ → Row) (j : ℕ) (p : Copy) : Type 0 where
   pub d : (k : ℕ) → k < links job → link job k .to ≡ j → ruleD job (link job k) (before (link job k .from)) p ≡ true
-  pub g : (i : ℕ) → i < j → ruleGPrimary (before i) p ≡ true
+  pub g : (i : ℕ) → i < m → ruleGPrimary (before i) p ≡ true
 
 -- 'likewise under A to G', C aside
-pub record BackupKept (job : Job) (before : ℕ → Row) (j : ℕ) (s : Row) : Type 0 where
+pub record BackupKept (job : Job) (m : ℕ) (before : ℕ → Row) (j : ℕ) (s : Row) : Type 0 where
   pub a : ruleA job s ≡ true
   pub b : ruleB job s ≡ true
   pub e : (k : ℕ) → k < links job → link job k .to ≡ j → ruleE job (link job k) (before (link job k .from)) s ≡ true
   pub f : ruleF job s ≡ true
-  pub g : (i : ℕ) → i < j → ruleGBackup job (before i) s ≡ true
+  pub g : (i : ℕ) → i < m → ruleGBackup job (before i) s ≡ true
 
-pub primary-keeps : (job : Job) (before : ℕ → Row) (j : ℕ) (p : Copy) → (primaryKeeps job before j p ≡ true) ↔ PrimaryKept job before j p
+pub primary-keeps : (job : Job) (m : ℕ) (before : ℕ → Row) (j : ℕ) (p : Copy)
+    → (primaryKeeps job m before j p ≡ true) ↔ PrimaryKept job m before j p
 unfolding primaryKeeps
-primary-keeps job before j p = (
-  λ h. record { d = every-into job j _ .0 (and-l _ _ h); g = every-e j _ (and-r _ _ h) },
-  λ k. and-i _ _ (every-into job j _ .1 (k .d)) (every-i j _ (k .g)),
+primary-keeps job m before j p = (
+  λ h. record { d = every-into job j _ .0 (and-l _ _ h); g = every-e m _ (and-r _ _ h) },
+  λ k. and-i _ _ (every-into job j _ .1 (k .d)) (every-i m _ (k .g)),
 )
 
-pub backup-keeps : (job : Job) (before : ℕ → Row) (j : ℕ) (s : Row) → (backupKeeps job before j s ≡ true) ↔ BackupKept job before j s
+pub backup-keeps : (job : Job) (m : ℕ) (before : ℕ → Row) (j : ℕ) (s : Row) → (backupKeeps job m before j s ≡ true) ↔ BackupKept job m before j s
 unfolding backupKeeps
-backup-keeps job before j s = (
+backup-keeps job m before j s = (
   λ h0.
       let h1 = and-r _ _ h0 in
       let h2 = and-r _ _ h1 in
@@ -46,9 +47,9 @@ backup-keeps job before j s = (
         b = and-l _ _ h1;
         e = every-into job j _ .0 (and-l _ _ h2);
         f = and-l _ _ h3;
-        g = every-e j _ (and-r _ _ h3);
+        g = every-e m _ (and-r _ _ h3);
       },
-  λ k. and-i _ _ (k .a) (and-i _ _ (k .b) (and-i _ _ (every-into job j _ .1 (k .e)) (and-i _ _ (k .f) (every-i j _ (k .g))))),
+  λ k. and-i _ _ (k .a) (and-i _ _ (k .b) (and-i _ _ (every-into job j _ .1 (k .e)) (and-i _ _ (k .f) (every-i m _ (k .g))))),
 )
 
 -- beside all tables that agree before task j
@@ -56,14 +57,14 @@ module _ (job : Job) (sound : Sound job) (f g : ℕ → Row) (j : ℕ) (agree : 
   from-agrees : (k : ℕ) → k < links job → link job k .to ≡ j → f (link job k .from) ≡ g (link job k .from)
   from-agrees k p e = agree _ (omega (arith, sound .rise k p))
 
-  pub primary-kept-on : (p : Copy) → PrimaryKept job f j p → PrimaryKept job g j p
+  pub primary-kept-on : (p : Copy) → PrimaryKept job j f j p → PrimaryKept job j g j p
   primary-kept-on p k =
       record {
         d = λ m pm e. subst (λ s. ruleD job (link job m) s p ≡ true) (from-agrees m pm e) (k .d m pm e);
         g = λ i pi. subst (λ s. ruleGPrimary s p ≡ true) (agree i pi) (k .g i pi);
       }
 
-  pub backup-kept-on : (r : Row) → BackupKept job f j r → BackupKept job g j r
+  pub backup-kept-on : (r : Row) → BackupKept job j f j r → BackupKept job j g j r
   backup-kept-on r k =
       record {
         a = k .a;

@@ -10,6 +10,7 @@ pub mod FirmSurvives
 pub mod PassedSurvives
 pub mod EarliestLaws
 pub mod PlaceTaskLaws
+pub mod AnywhereLaws
 pub mod KeepsLaws
 pub mod PlannedPasses
 pub mod PlannerRefusals

@@ -1,26 +1,21 @@
 -- Laws of a loss: whom it strikes, and what it leaves of a copy.
-use Prim.Native.Nat.{ℕ}
+use Prim.Native.Nat.{ℕ, _≤_, _<_}
 use mathlib.Core.Bool.{Bool, true, false}
 use mathlib.Core.Path.{_≡_, refl, subst}
 use lib.Dec.{ltb, leb, eqb}
-use borrow.Author.Tests.{leb-false, eqb-true}
+use borrow.Author.Tests.{lt-ltb, le-leb, leb-false, eqb-true}
 use native.Mathlib.Omega.{arith}
 use Rattle.reader.specs.declared.job.Job.{Job}
-use Rattle.reader.proofs.TestLaws.{split, clash, not-true, and-i}
+use Rattle.reader.proofs.TestLaws.{split, clash, not-true, and-l, and-r, and-i, not-e}
 use Rattle.reader.proofs.FirstLaws.{any-i}
 use Rattle.rules.specs.declared.Copy.{Copy}
 use Rattle.rules.specs.declared.Loss.{Loss}
 use Rattle.rules.specs.declared.Loss.the-variants.{NoLoss, Lost}
-use Rattle.rules.specs.Copies.{domain, domains}
-use Rattle.rules.specs.Rules.{Row, shareFault}
+use Rattle.rules.specs.Copies.{HeldBy, overlap, domain, domains}
+use Rattle.rules.specs.Rules.{Row, shareFault, ruleGPrimary, ruleGBackup}
 use Rattle.rules.specs.Replay.{isFinished, started, attempt}
-use Rattle.rules.specs.Survival.{LossOf, Holds}
-use Rattle.rules.proofs.CopyLaws.{HeldBy}
-
--- the lost domain is in the set s
-unfoldable pub struck : Loss → (ℕ → Bool) → Bool
-struck NoLoss s = false
-struck (Lost q f) s = s q
+use Rattle.rules.specs.Survival.{LossOf, LossFrom, Role, primary, backup, copyOf, Holds}
+use Rattle.rules.specs.Firm.{struck, Called}
 
 pub struck-more : (loss : Loss) (s u : ℕ → Bool) → ((q : ℕ) → s q ≡ true → u q ≡ true) → struck loss s ≡ true → struck loss u ≡ true
 unfolding struck
@@ -44,6 +39,30 @@ pub started-away : (job : Job) (loss : Loss) (c : Copy) → struck loss (eqb (do
 unfolding struck started
 started-away job NoLoss c h = refl
 started-away job (Lost q f) c h = rw h
+
+-- a copy that finishes by moment t is not touched by a loss from then on
+pub started-by : (job : Job) (loss : Loss) (t : ℕ) (c : Copy) → LossFrom t loss → c .start < c .finish → c .finish ≤ t
+    → isFinished (started job loss c) ≡ true
+unfolding started
+started-by job NoLoss t c from runs by = refl
+started-by job (Lost q f) t c from runs by =
+    rw (lt-ltb (c .start) f (omega arith), le-leb (c .finish) f (omega arith))
+    (split (eqb (domain job (c .node)) q) (λ e. rw e) (λ e. rw e))
+
+-- a loss at any moment is a loss at 0 or later
+pub from-start : (loss : Loss) → LossFrom 0 loss
+from-start NoLoss = tt
+from-start (Lost q f) = omega arith
+
+-- by G copies that one loss calls on do not overlap
+pub called-apart : (job : Job) (r s : Row) (a b : Role) (loss : Loss) → LossOf job loss → ruleGPrimary r (s .primary) ≡ true → ruleGBackup job r s ≡ true
+    → Called a loss (r .faults) → Called b loss (s .faults) → overlap (copyOf a r) (copyOf b s) ≡ false
+unfolding ruleGPrimary ruleGBackup
+called-apart job r s primary primary loss of-job rp rb h g = not-e _ (and-l _ _ rp)
+called-apart job r s backup primary loss of-job rp rb h g = not-e _ (and-r _ _ rp)
+called-apart job r s primary backup loss of-job rp rb h g = not-e _ (and-l _ _ rb)
+called-apart job r s backup backup loss of-job rp rb h g =
+    not-true _ (λ over. clash _ (and-i _ _ over (struck-both job loss r s of-job h g)) (not-e _ (and-r _ _ rb)))
 
 -- a started copy holds ticks of its own only
 pub held : (job : Job) (loss : Loss) (c : Copy) (b : Bool) (tick : ℕ) → Holds loss c (attempt job loss b c) tick → HeldBy c tick

@@ -10,21 +10,15 @@ use Rattle.reader.proofs.TestLaws.{never}
 use Rattle.rules.specs.declared.Copy.{Copy}
 use Rattle.rules.specs.Rules.{Row, row}
 use Rattle.rules.specs.Attempts.{Attempt, refused, placed}
-use Rattle.rules.specs.Planner.{primaryKeeps, backupKeeps, placeTask}
+use Rattle.rules.specs.Planner.{primaryMay, placeTask}
+use Rattle.rules.specs.Choice.{Best, NoPlace, backupKeepsBeside}
 use Rattle.rules.proofs.AttemptLaws.{search-placed, search-refused}
-use Rattle.rules.proofs.EarliestLaws.{Open, Best, earliest-some, earliest-none}
+use Rattle.rules.proofs.EarliestLaws.{earliest-some, earliest-none}
 
--- no node and start keeps the rules
-abbrev pub NoPlace : Job → ℕ → (Copy → Bool) → Type 0
-NoPlace job j keeps = (n s : ℕ) → Open job j keeps n s → ⊥
-
-module _ (job : Job) (before : ℕ → Row) (j : ℕ) where
-  -- the backup b keeps the rules beside the primary p
-  abbrev pub backupKeepsBeside : Copy → Copy → Bool
-  backupKeepsBeside p b = backupKeeps job before j (row job before j p b)
-
-  pub place-task-placed : (r : Row) → (placeTask job before j ≡ placed r)
-      ↔ ((p : Copy) × (b : Copy) × Best job j (primaryKeeps job before j) p × Best job j (backupKeepsBeside p) b × (row job before j p b ≡ r))
+module _ (job : Job) (may : Copy → Bool) (m : ℕ) (before : ℕ → Row) (j : ℕ) where
+  pub place-task-placed : (r : Row) → (placeTask job may m before j ≡ placed r)
+      ↔ ((p : Copy) × (b : Copy) × Best job j (primaryMay job may m before j) p × Best job j (backupKeepsBeside job m before j p) b
+      × (row job before j p b ≡ r))
   unfolding placeTask
   place-task-placed r = (
     λ h.
@@ -42,9 +36,9 @@ module _ (job : Job) (before : ℕ → Row) (j : ℕ) where
         ),
   )
 
-  pub place-task-refused : (r : Refusal) → (placeTask job before j ≡ refused r)
-      ↔ ((NoPlace job j (primaryKeeps job before j) × (NoPrimary j ≡ r))
-      ⊎ ((p : Copy) × Best job j (primaryKeeps job before j) p × NoPlace job j (backupKeepsBeside p) × (NoBackup j ≡ r)))
+  pub place-task-refused : (r : Refusal) → (placeTask job may m before j ≡ refused r)
+      ↔ ((NoPlace job j (primaryMay job may m before j) × (NoPrimary j ≡ r))
+      ⊎ ((p : Copy) × Best job j (primaryMay job may m before j) p × NoPlace job j (backupKeepsBeside job m before j p) × (NoBackup j ≡ r)))
   unfolding placeTask
   place-task-refused r = (
     λ h.
@@ -63,15 +57,15 @@ module _ (job : Job) (before : ℕ → Row) (j : ℕ) where
   )
 
   -- 15: no node and start keeps the rules for the primary
-  pub no-primary : (placeTask job before j ≡ refused (NoPrimary j)) ↔ NoPlace job j (primaryKeeps job before j)
+  pub no-primary : (placeTask job may m before j ≡ refused (NoPrimary j)) ↔ NoPlace job j (primaryMay job may m before j)
   no-primary = (
     λ h. ⊎-elim (λ w. w .0) (λ w. never (let e = w .3 in cc)) (place-task-refused (NoPrimary j) .0 h),
     λ w. place-task-refused (NoPrimary j) .1 (inl (w, refl)),
   )
 
   -- 16: the primary has its place, and then no node and start keeps them for the backup
-  pub no-backup : (placeTask job before j ≡ refused (NoBackup j))
-      ↔ ((p : Copy) × Best job j (primaryKeeps job before j) p × NoPlace job j (backupKeepsBeside p))
+  pub no-backup : (placeTask job may m before j ≡ refused (NoBackup j))
+      ↔ ((p : Copy) × Best job j (primaryMay job may m before j) p × NoPlace job j (backupKeepsBeside job m before j p))
   no-backup = (
     λ h. ⊎-elim (λ w. never (let e = w .1 in cc)) (λ w. (w .0, w .1, w .2)) (place-task-refused (NoBackup j) .0 h),
     λ w. place-task-refused (NoBackup j) .1 (inr (w .0, w .1, w .2, refl)),

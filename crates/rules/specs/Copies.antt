@@ -1,5 +1,5 @@
 -- Copies of tasks: their times, when two of them overlap, and when a result arrives.
-use Prim.Native.Nat.{ℕ, _+_, max, min}
+use Prim.Native.Nat.{ℕ, _+_, _≤_, _<_, max, min}
 use mathlib.Core.Bool.{Bool, cond}
 use lib.Dec.{leb, ltb, eqb}
 use Rattle.reader.specs.declared.job.Job.{Job}
@@ -11,6 +11,10 @@ use Rattle.rules.specs.declared.Copy.{Copy}
 -- 'A copy of task j on node n takes the listed run time and finishes at start plus run time.'
 unfoldable pub copy : Job → ℕ → ℕ → ℕ → Copy
 copy job j n s = record { node = n; start = s; finish = s + run job j n }
+
+-- 'It holds its node from its start up to, but not including, its finish.'
+abbrev pub HeldBy : Copy → ℕ → Type 0
+HeldBy c tick = (c .start ≤ tick) × (tick < c .finish)
 
 -- 'Two copies overlap if some tick is held by both.'
 unfoldable pub overlap : Copy → Copy → Bool

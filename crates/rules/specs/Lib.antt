@@ -6,3 +6,9 @@ pub mod Replay
 pub mod Attempts
 pub mod Planner
 pub mod Survival
+pub mod Paths
+pub mod Breach
+pub mod Choice
+pub mod Firm
+pub mod Samples
+pub mod WrongTurns

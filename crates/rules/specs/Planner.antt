@@ -1,6 +1,6 @@
 -- The planner: each copy at the first place, by finish and then by node, that keeps the rules against the copies already placed.
 use Prim.Native.Nat.{ℕ, zero, suc, _-_}
-use mathlib.Core.Bool.{Bool}
+use mathlib.Core.Bool.{Bool, true}
 use mathlib.Core.Option.{Option}
 use lib.Dec.{leb, ltb, eqb}
 use lib.ListN.{replicate}
@@ -26,34 +26,39 @@ earliest job j keeps =
     let c = copy job j n (t - run job j n) in
     when (ltb 0 (run job j n) and leb (run job j n) t and keeps c) c
 
--- the primary p of task j keeps 'D and G against copies already placed'
-unfoldable pub primaryKeeps : Job → (ℕ → Row) → ℕ → Copy → Bool
-primaryKeeps job before j p =
+-- the primary p of task j keeps 'D and G against copies already placed': those of the first m rows, of which rows not placed yet are
+-- blank and hold no tick
+unfoldable pub primaryKeeps : Job → ℕ → (ℕ → Row) → ℕ → Copy → Bool
+primaryKeeps job m before j p =
     every (links job) (λ k. let l = link job k in eqb (l .to) j implies ruleD job l (before (l .from)) p)
-    and every j (λ i. ruleGPrimary (before i) p)
+    and every m (λ i. ruleGPrimary (before i) p)
+
+-- and passes a test of its own beside the rules
+abbrev pub primaryMay : Job → (Copy → Bool) → ℕ → (ℕ → Row) → ℕ → Copy → Bool
+primaryMay job may m before j p = may p and primaryKeeps job m before j p
 
 -- 'Then the backup, likewise under A to G': the row s of task j keeps them (C is the deadline of `earliest`)
-unfoldable pub backupKeeps : Job → (ℕ → Row) → ℕ → Row → Bool
-backupKeeps job before j s =
+unfoldable pub backupKeeps : Job → ℕ → (ℕ → Row) → ℕ → Row → Bool
+backupKeeps job m before j s =
     ruleA job s
     and ruleB job s
     and every (links job) (λ k. let l = link job k in eqb (l .to) j implies ruleE job l (before (l .from)) s)
     and ruleF job s
-    and every j (λ i. ruleGBackup job (before i) s)
+    and every m (λ i. ruleGBackup job (before i) s)
 
 -- 'First the primary'; 15 or 16 where there is no place
-unfoldable pub placeTask : Job → (ℕ → Row) → ℕ → Attempt Row
-placeTask job before j = do
-  p ← earliest job j (primaryKeeps job before j) or-refuse NoPrimary j
-  b ← earliest job j (λ b. backupKeeps job before j (row job before j p b)) or-refuse NoBackup j
+unfoldable pub placeTask : Job → (Copy → Bool) → ℕ → (ℕ → Row) → ℕ → Attempt Row
+placeTask job may m before j = do
+  p ← earliest job j (primaryMay job may m before j) or-refuse NoPrimary j
+  b ← earliest job j (λ b. backupKeeps job m before j (row job before j p b)) or-refuse NoBackup j
   placed (row job before j p b)
 
--- 'Tasks go by number.'
-unfoldable pub placeTasks : Job → ℕ → Attempt (ℕ → Row)
-placeTasks job zero = placed (λ i. blankRow)
-placeTasks job (suc j) = do
-  before ← placeTasks job j
-  r ← placeTask job before j
+-- 'Tasks go by number', each under its own test of its primary
+unfoldable pub placeTasks : Job → (ℕ → Copy → Bool) → ℕ → Attempt (ℕ → Row)
+placeTasks job may zero = placed (λ i. blankRow)
+placeTasks job may (suc j) = do
+  before ← placeTasks job may j
+  r ← placeTask job (may j) j before j
   placed (put before j r)
 
 -- the plan that has these rows
@@ -74,7 +79,15 @@ planOf job t =
       places = fill (tasks job) (λ j. placeOf (t j)) (replicate maxTasks noPlace);
     }
 
-unfoldable pub planner : Job → Attempt Plan
-planner job = do
-  t ← placeTasks job (tasks job)
+-- the plan in which each primary passes its test, and all else is by rule
+unfoldable pub plannerWith : (ℕ → Copy → Bool) → Job → Attempt Plan
+plannerWith may job = do
+  t ← placeTasks job may (tasks job)
   placed (planOf job t)
+
+-- any place, where nothing is forced
+abbrev pub anywhere : ℕ → Copy → Bool
+anywhere j p = true
+
+unfoldable pub planner : Job → Attempt Plan
+planner = plannerWith anywhere

@@ -16,6 +16,11 @@ abbrev pub LossOf : Job → Loss → Type 0
 LossOf job NoLoss = Unit {0}
 LossOf job (Lost q f) = q < domains job
 
+-- a loss at moment t or later
+abbrev pub LossFrom : ℕ → Loss → Type 0
+LossFrom t NoLoss = Unit {0}
+LossFrom t (Lost q f) = t ≤ f
+
 -- which of a task's two copies
 pub data Role : Type 0 where
   primary backup : Role
@@ -28,10 +33,11 @@ abbrev pub stateOf : Role → TaskRun → State
 stateOf primary x = x .primary
 stateOf backup x = x .backup
 
--- 'it holds its node from its start up to, but not including, its finish, or f if cut': the tick up to which it holds
+-- 'it holds its node from its start up to, but not including, its finish, or f if cut': the tick up to which it holds. No copy is cut
+-- under no loss; it would hold to its finish
 abbrev pub heldUntil : Loss → Copy → State → ℕ
 heldUntil loss c notStarted = c .start
-heldUntil NoLoss c cut = c .start
+heldUntil NoLoss c cut = c .finish
 heldUntil (Lost q f) c cut = f
 heldUntil loss c finished = c .finish
 

@@ -4,3 +4,4 @@ pub mod PassedFiles
 pub mod ReadLaws
 pub mod KeptBytes
 pub mod FileSamples
+pub mod Unpacked

@@ -26,7 +26,7 @@ use Rattle.rules.specs.Judge.{breach, judge}
 use Rattle.rules.specs.Attempts.{Attempt, refused, placed}
 use Rattle.rules.specs.Planner.{planner}
 use Rattle.rules.proofs.PlannedPasses.{planned-sound, planned-passes, planned-places}
-use Rattle.seqopchi.specs.Files.{judgeFiles, refusalOf, planOr, planFileFault, planFile}
+use Rattle.seqopchi.specs.Files.{filesFault, judgeFiles, refusalOf, planOr, planFileFault, planFile}
 
 -- an attempt that was not refused placed something
 placed-plan : (a : Attempt Plan) → refusalOf a ≡ none → a ≡ placed (planOr a)
@@ -83,11 +83,11 @@ module _ (file out : List ℕ) (done : planFile file out .answer ≡ Done) where
   written = ap (take (planLength (tasks job))) planned-buffer ∙ take-at (planBytes plan) _ (planLength (tasks job)) planned-length
 
   pub planned-file-passes : judgeFiles file (take (planLength (tasks job)) (planFile file out .buffer)) ≡ none
-  unfolding judgeFiles
+  unfolding judgeFiles filesFault
   planned-file-passes =
       rw written
-      (or-else-i _ _ job-fine
-      (or-else-i _ _ (sound-plan-reads job plan sound (plan-sound job sound plan found)) (no-breach job sound plan found)))
+      (or-else-i _ _ (or-else-i _ _ job-fine (sound-plan-reads job plan sound (plan-sound job sound plan found)))
+      (no-breach job sound plan found))
 
 -- the same on the 8-byte results
 pub planned-passes-bytes : (file out : List ℕ) → result (planFile file out .answer) ≡ 0

@@ -1,12 +1,13 @@
--- Laws of the calls that read two files: each step behind those that passed.
+-- Laws of the calls that read files: each step behind those that passed.
 use Prim.Native.Nat.{ℕ, _*_, _≤_, _<_}
 use mathlib.Core.Path.{_≡_, sym, ap, ap₂, _∙_, subst}
 use mathlib.Core.List.{List, _++_}
-use mathlib.Core.Option.{none, some}
+use mathlib.Core.Option.{Option, none, some}
 use lib.ListN.{length, drop}
 use borrow.Author.Tests.{lt-leb, le-leb, lt-ltb, le-ltb}
 use Rattle.reader.specs.declared.job.Job.{Job}
 use Rattle.reader.specs.declared.job_file.JobRead.{JobRead}
+use Rattle.reader.specs.declared.plan.Plan.{Plan}
 use Rattle.reader.specs.declared.plan_file.PlanRead.{PlanRead}
 use Rattle.reader.specs.declared.refusal.Refusal.{Refusal}
 use Rattle.reader.specs.declared.refusal.Refusal.the-variants.{ShortBuffer, NoSuchNode}
@@ -15,29 +16,30 @@ use Rattle.reader.specs.declared.refusal.Answer.the-variants.{Done, Refused}
 use Rattle.reader.specs.First.{_or-else_, unless}
 use Rattle.reader.specs.Entries.{nodes, tasks}
 use Rattle.reader.specs.Sound.{Sound, PlanSound}
-use Rattle.reader.specs.Refusals.{answered}
-use Rattle.reader.specs.JobFile.{jobFault, jobAt, readJob}
-use Rattle.reader.specs.PlanFile.{planFault, planAt, readPlan}
+use Rattle.reader.specs.Refusals.{answered, result}
+use Rattle.reader.specs.JobFile.{jobFault, jobAt, readJob, JobDone}
+use Rattle.reader.specs.PlanFile.{readPlan}
+use Rattle.reader.proofs.FirstLaws.{or-else-l, or-else-r}
 use Rattle.reader.proofs.RefusalLaws.{answered-done, answered-refused}
 use Rattle.reader.proofs.Chain.{pass, stop}
-use Rattle.reader.proofs.Promise.{JobDone, job-done, PlanDone, plan-done}
-use Rattle.writer.specs.Write.{roomFault, Written}
+use Rattle.reader.proofs.Promise.{none-value, job-sound as sound-job, plan-sound, job-done}
+use Rattle.writer.specs.Write.{roomFault, Written, writes}
 use Rattle.rules.specs.declared.Loss.{Loss}
 use Rattle.rules.specs.declared.Loss.the-variants.{NoLoss, Lost}
 use Rattle.rules.specs.Judge.{judge}
 use Rattle.replay.specs.Outcomes.{replayBytes}
 use Rattle.replay.proofs.WriteLaws.{length-replay}
-use Rattle.seqopchi.specs.Files.{planIn, judgeFiles, lossFault, replayFault, replayFiles}
+use Rattle.seqopchi.specs.Files.{planIn, filesFault, judgeFiles, lossFault, replayFault, replayFiles}
 
--- a refusal leaves the buffer
-refuses : (job plan : List ℕ) (loss : Loss) (out : List ℕ) {r : Refusal} → replayFault job plan loss out ≡ some r
-    → replayFiles job plan loss out ≡ record { answer = Refused r; buffer = out }
-unfolding replayFiles
-refuses job plan loss out e = rw e
+-- a refusal that is handed on leaves the buffer
+pub refuses : {fault : Option Refusal} {r : Refusal} (s out : List ℕ) {a : Answer} → fault ≡ some r → a ≡ Refused r
+    → writes fault s out ≡ record { answer = a; buffer = out }
+refuses s out e q = rw (e, q)
 
-refused-with : (w : Written) (a : Answer) (out : List ℕ) {r : Refusal} → w ≡ record { answer = Refused r; buffer = out } → a ≡ Refused r
-    → w ≡ record { answer = a; buffer = out }
-refused-with w a out e q = e ∙ ap (λ x. record { answer = x; buffer = out }) (sym q)
+-- C is given the answer's result, and the buffer
+pub given : {w : Written} {a : Answer} {b : List ℕ} {n : ℕ} → w ≡ record { answer = a; buffer = b } → n ≡ result a
+    → (n ≡ result (w .answer)) × (b ≡ w .buffer)
+given e q = (q ∙ sym (ap (λ w. result (w .answer)) e), sym (ap (λ w. w .buffer) e))
 
 -- whether the lost node is one of the job's
 module _ (job : Job) (loss : Loss) (q f n : ℕ) (told : loss ≡ Lost q f) (is : nodes job ≡ n) where
@@ -53,85 +55,96 @@ pub nothing-lost : (job : Job) (loss : Loss) → loss ≡ NoLoss → Done ≡ an
 unfolding lossFault
 nothing-lost job loss told = rw told
 
-module _ (job plan : List ℕ) (read : JobRead) (is : read ≡ readJob job) where
-  bad-job : {r : Refusal} → read .answer ≡ Refused r → jobFault job ≡ some r
+-- files without fault hold a sound job and a sound plan of it
+pub files-sound : (file plan : List ℕ) → filesFault file plan ≡ none → Sound (jobAt file) × PlanSound (jobAt file) (planIn file plan)
+unfolding filesFault
+files-sound file plan e =
+    let s = sound-job file (or-else-l _ _ e) in
+    (s, plan-sound plan (jobAt file) s (or-else-r _ _ e))
+
+-- what every call on a plan begins with: two files that read well, and what was read
+pub record FilesDone (file plan : List ℕ) (job : Job) (places : Plan) : Type 0 where
+  pub fault : filesFault file plan ≡ none
+  pub job-is : job ≡ jobAt file
+  pub plan-is : places ≡ planIn file plan
+
+-- a job file that was read, and then a plan file
+module _ (file : List ℕ) (read : JobRead) (is : read ≡ readJob file) where
+  pub bad-job : {r : Refusal} → read .answer ≡ Refused r → jobFault file ≡ some r
   unfolding readJob
   bad-job {r} q = answered-refused _ r .0 (sym (ap (λ x. x .answer) is) ∙ q)
 
-  pub judge-bad-job : {r : Refusal} → read .answer ≡ Refused r → read .answer ≡ answered (judgeFiles job plan)
-  unfolding judgeFiles
-  judge-bad-job q = q ∙ sym (ap answered (stop _ (bad-job q)))
-
-  pub replay-bad-job : (loss : Loss) (out : List ℕ) {r : Refusal} → read .answer ≡ Refused r
-      → replayFiles job plan loss out ≡ record { answer = read .answer; buffer = out }
-  unfolding replayFault
-  replay-bad-job loss out q = refused-with _ _ _ (refuses job plan loss out (stop _ (bad-job q))) q
+  pub job-stops : (plan : List ℕ) {r : Refusal} → read .answer ≡ Refused r → filesFault file plan ≡ some r
+  unfolding filesFault
+  job-stops plan q = stop _ (bad-job q)
 
   module _ (done : read .answer ≡ Done) where
-    good : JobDone job
-    good = job-done job (sym (ap (λ x. x .answer) is) ∙ done)
+    pub good : JobDone file
+    good = job-done file (sym (ap (λ x. x .answer) is) ∙ done)
 
-    pub job-is : read .job ≡ jobAt job
+    pub job-is : read .job ≡ jobAt file
     job-is = ap (λ x. x .job) is ∙ good .job
 
     pub job-sound : Sound (read .job)
     job-sound = subst Sound (sym (ap (λ x. x .job) is)) (good .sound)
 
-    module _ (p : PlanRead) (ip : p ≡ readPlan plan (read .job)) where
-      bad-plan : {r : Refusal} → p .answer ≡ Refused r → planFault plan (jobAt job) ≡ some r
-      unfolding readPlan
-      bad-plan {r} q = rw (← job-is) (answered-refused _ r .0 (sym (ap (λ x. x .answer) ip) ∙ q))
+    module _ (plan : List ℕ) (p : PlanRead) (ip : p ≡ readPlan plan (read .job)) where
+      plan-read : p ≡ readPlan plan (jobAt file)
+      plan-read = ip ∙ ap (readPlan plan) job-is
 
-      pub judge-bad-plan : {r : Refusal} → p .answer ≡ Refused r → p .answer ≡ answered (judgeFiles job plan)
-      unfolding judgeFiles
-      judge-bad-plan q = q ∙ sym (ap answered (pass _ (good .fault) ∙ stop _ (bad-plan q)))
+      to-plan : p .answer ≡ answered (filesFault file plan)
+      unfolding filesFault readPlan
+      to-plan = ap (λ x. x .answer) plan-read ∙ sym (ap answered (pass _ (good .fault)))
 
-      pub replay-bad-plan : (loss : Loss) (out : List ℕ) {r : Refusal} → p .answer ≡ Refused r
-          → replayFiles job plan loss out ≡ record { answer = p .answer; buffer = out }
-      unfolding replayFault
-      replay-bad-plan loss out q = refused-with _ _ _ (refuses job plan loss out (pass _ (good .fault) ∙ stop _ (bad-plan q))) q
+      pub plan-stops : {r : Refusal} → p .answer ≡ Refused r → filesFault file plan ≡ some r
+      plan-stops {r} q = answered-refused _ r .0 (sym to-plan ∙ q)
 
-      module _ (planned : p .answer ≡ Done) where
-        fine : PlanDone plan (read .job)
-        fine = plan-done plan (read .job) job-sound (sym (ap (λ x. x .answer) ip) ∙ planned)
+      pub files-done : p .answer ≡ Done → FilesDone file plan (read .job) (p .plan)
+      unfolding filesFault readPlan
+      files-done planned =
+          let fine = answered-done (filesFault file plan) .0 (sym to-plan ∙ planned) in
+          record { fault = fine; job-is = job-is; plan-is = ap (λ x. x .plan) plan-read ∙ none-value _ _ _ (or-else-r _ _ fine) }
 
-        pub plan-sound : PlanSound (read .job) (p .plan)
-        plan-sound = subst (PlanSound (read .job)) (sym (ap (λ x. x .plan) ip)) (fine .sound)
+module _ (file plan : List ℕ) {r : Refusal} (a : Answer) (bad : filesFault file plan ≡ some r) (q : a ≡ Refused r) where
+  pub judge-stops : a ≡ answered (judgeFiles file plan)
+  unfolding judgeFiles
+  judge-stops = q ∙ sym (ap answered (stop _ bad))
 
-        plan-is : p .plan ≡ planIn job plan
-        plan-is = ap (λ x. x .plan) ip ∙ fine .plan ∙ ap (λ j. planAt plan (tasks j)) job-is
+  pub replay-stops : (loss : Loss) (out : List ℕ) → replayFiles file plan loss out ≡ record { answer = a; buffer = out }
+  unfolding replayFiles replayFault
+  replay-stops loss out = refuses _ out (stop _ bad) q
 
-        plan-fine : planFault plan (jobAt job) ≡ none
-        plan-fine = rw (← job-is) (fine .fault)
+module _ (file plan : List ℕ) (job : Job) (places : Plan) (d : FilesDone file plan job places) where
+  pub both-sound : Sound job × PlanSound job places
+  both-sound = rw (d .job-is, d .plan-is) (files-sound file plan (d .fault))
 
-        pub judged : (a : Answer) → a ≡ judge (read .job) (p .plan) → a ≡ answered (judgeFiles job plan)
-        unfolding judgeFiles judge
-        judged a e =
-            e ∙ ap₂ (λ j x. judge j x) job-is plan-is ∙ sym (ap answered (pass _ (good .fault) ∙ pass _ plan-fine))
+  pub judged : (a : Answer) → a ≡ judge job places → a ≡ answered (judgeFiles file plan)
+  unfolding judgeFiles judge
+  judged a e = e ∙ ap₂ (λ j x. judge j x) (d .job-is) (d .plan-is) ∙ sym (ap answered (pass _ (d .fault)))
 
-        module _ (loss : Loss) (out : List ℕ) (a : Answer) (ea : a ≡ answered (lossFault (read .job) loss)) where
-          to-loss : replayFault job plan loss out ≡ (lossFault (read .job) loss or-else roomFault out (12 * tasks (read .job)))
-          unfolding replayFault
-          to-loss = pass _ (good .fault) ∙ pass _ plan-fine ∙ rw job-is
+  module _ (loss : Loss) (out : List ℕ) (a : Answer) (ea : a ≡ answered (lossFault job loss)) where
+    to-loss : replayFault file plan loss out ≡ (lossFault job loss or-else roomFault out (12 * tasks job))
+    unfolding replayFault
+    to-loss = pass _ (d .fault) ∙ ap (λ j. lossFault j loss or-else roomFault out (12 * tasks j)) (sym (d .job-is))
 
-          pub no-node : {r : Refusal} → a ≡ Refused r → replayFiles job plan loss out ≡ record { answer = a; buffer = out }
-          no-node {r} q = refused-with _ _ _ (refuses job plan loss out (to-loss ∙ stop _ (answered-refused _ r .0 (sym ea ∙ q)))) q
+    pub no-node : {r : Refusal} → a ≡ Refused r → replayFiles file plan loss out ≡ record { answer = a; buffer = out }
+    unfolding replayFiles
+    no-node {r} q = refuses _ out (to-loss ∙ stop _ (answered-refused _ r .0 (sym ea ∙ q))) q
 
-          module _ (there : a ≡ Done) where
-            to-room : replayFault job plan loss out ≡ roomFault out (12 * tasks (read .job))
-            to-room = to-loss ∙ pass _ (answered-done _ .0 (sym ea ∙ there))
+    module _ (there : a ≡ Done) where
+      to-room : replayFault file plan loss out ≡ roomFault out (12 * tasks job)
+      to-room = to-loss ∙ pass _ (answered-done _ .0 (sym ea ∙ there))
 
-            pub no-room : length out < 12 * tasks (read .job)
-                → replayFiles job plan loss out ≡ record { answer = Refused (ShortBuffer (12 * tasks (read .job))); buffer = out }
-            unfolding roomFault unless
-            no-room h = refuses job plan loss out (to-room ∙ rw (lt-leb (12 * tasks (read .job)) (length out) h))
+      pub no-room : length out < 12 * tasks job
+          → replayFiles file plan loss out ≡ record { answer = Refused (ShortBuffer (12 * tasks job)); buffer = out }
+      unfolding replayFiles roomFault unless
+      no-room h = rw (to-room, lt-leb (12 * tasks job) (length out) h)
 
-            pub replayed : 12 * tasks (read .job) ≤ length out → (b : List ℕ)
-                → b ≡ replayBytes (read .job) (p .plan) loss ++ drop (12 * tasks (read .job)) out
-                → replayFiles job plan loss out ≡ record { answer = Done; buffer = b }
-            unfolding replayFiles roomFault unless
-            replayed h b e =
-                let fine-room : replayFault job plan loss out ≡ none = to-room ∙ rw (le-leb (12 * tasks (read .job)) (length out) h) in
-                let same : replayBytes (jobAt job) (planIn job plan) loss ≡ replayBytes (read .job) (p .plan) loss =
-                ap₂ (λ j x. replayBytes j x loss) (sym job-is) (sym plan-is) in
-                rw (fine-room, same, length-replay (read .job) (p .plan) loss) (ap (λ x. record { answer = Done; buffer = x }) (sym e))
+      pub replayed : 12 * tasks job ≤ length out → (b : List ℕ)
+          → b ≡ replayBytes job places loss ++ drop (12 * tasks job) out
+          → replayFiles file plan loss out ≡ record { answer = Done; buffer = b }
+      unfolding replayFiles roomFault unless
+      replayed h b e =
+          let fine-room : replayFault file plan loss out ≡ none = to-room ∙ rw (le-leb (12 * tasks job) (length out) h) in
+          let same = ap₂ (λ j x. replayBytes j x loss) (sym (d .job-is)) (sym (d .plan-is)) in
+          rw (fine-room, same, length-replay job places loss) (ap (λ x. record { answer = Done; buffer = x }) (sym e))

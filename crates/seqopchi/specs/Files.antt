@@ -25,12 +25,13 @@ use Rattle.replay.specs.Outcomes.{replayBytes}
 abbrev pub planIn : List ℕ → List ℕ → Plan
 planIn job plan = planAt plan (tasks (jobAt job))
 
+-- 'reads job, plan': the first fault of both files
+unfoldable pub filesFault : List ℕ → List ℕ → Option Refusal
+filesFault job plan = jobFault job or-else planFault plan (jobAt job)
+
 -- 'The judge reads job, plan, then tries 8 to 14 in turn'
 unfoldable pub judgeFiles : List ℕ → List ℕ → Option Refusal
-judgeFiles job plan =
-    jobFault job
-    or-else planFault plan (jobAt job)
-    or-else breach (jobAt job) (rows (jobAt job) (planIn job plan))
+judgeFiles job plan = filesFault job plan or-else breach (jobAt job) (rows (jobAt job) (planIn job plan))
 
 -- what an attempt was refused, and what it placed
 abbrev pub refusalOf : {A : Type 0} → Attempt A → Option Refusal
@@ -58,11 +59,7 @@ lossFault job (Lost q f) = unless (ltb q (domains job)) (NoSuchNode q)
 
 -- 'Replay reads job, plan, then 18, then 17 (12 × N bytes).'
 unfoldable pub replayFault : List ℕ → List ℕ → Loss → List ℕ → Option Refusal
-replayFault job plan loss out =
-    jobFault job
-    or-else planFault plan (jobAt job)
-    or-else lossFault (jobAt job) loss
-    or-else roomFault out (12 * tasks (jobAt job))
+replayFault job plan loss out = filesFault job plan or-else lossFault (jobAt job) loss or-else roomFault out (12 * tasks (jobAt job))
 
 unfoldable pub replayFiles : List ℕ → List ℕ → Loss → List ℕ → Written
 replayFiles job plan loss out = writes (replayFault job plan loss out) (replayBytes (jobAt job) (planIn job plan) loss) out

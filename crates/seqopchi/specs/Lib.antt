@@ -1,2 +1,4 @@
 pub mod Files
 pub mod Demand
+pub mod Unpacks
+pub mod Samples

@@ -8,6 +8,7 @@ pub mod ReadWrite
 pub mod WordLaws
 pub mod SoundReads
 pub mod SoundWrites
+pub mod LongestJob
 pub mod WriteFits
 pub mod Samples
 pub mod WriteSamples

@@ -1,7 +1,7 @@
 -- Round trips of the whole functions: write what was read, and read what was written.
 use Prim.Native.Nat.{ℕ, _≤_}
 use mathlib.Core.Path.{_≡_, ap, _∙_}
-use mathlib.Core.List.{List, _++_}
+use mathlib.Core.List.{List}
 use mathlib.Core.Option.{Option, none}
 use lib.ListN.{length, take, drop}
 use lib.Seq.{take-append-seam}
@@ -12,17 +12,13 @@ use Rattle.reader.specs.declared.refusal.Refusal.{Refusal}
 use Rattle.reader.specs.declared.refusal.Answer.the-variants.{Done}
 use Rattle.reader.specs.JobFile.{jobAt, readJob}
 use Rattle.reader.specs.PlanFile.{planFault, readPlan}
-use Rattle.writer.specs.Write.{jobNumbers, jobBytes, planNumbers, planBytes, roomFault, writeJobFault, writePlanFault, Written, writes, writeJob, writePlan}
-use Rattle.writer.specs.Equality.{SameJob, SamePlan}
+use Rattle.writer.specs.Write.{jobNumbers, jobBytes, planNumbers, planBytes, roomFault, writeJobFault, writePlanFault, writes, wrote, writeJob, writePlan}
+use Rattle.writer.specs.Equality.{JobIn, PlanIn}
 use Rattle.reader.specs.Number.{Bytes, Words}
 use Rattle.reader.proofs.FirstLaws.{or-else-l, or-else-r, or-else-i, none-unless}
 use Rattle.reader.proofs.RefusalLaws.{answered-done}
 use Rattle.reader.proofs.Promise.{job-sound, job-done, plan-done}
 use Rattle.writer.proofs.RoundTrip.{job-written-back, plan-written-back, job-read-back, plan-read-back}
-
--- the whole of s written
-abbrev pub wrote : List ℕ → List ℕ → Written
-wrote s out = record { answer = Done; buffer = s ++ drop (length s) out }
 
 room-none : (out : List ℕ) (n : ℕ) → n ≤ length out → roomFault out n ≡ none
 unfolding roomFault
@@ -51,15 +47,6 @@ plan-rewritten f s out bf bs df ds h =
     let xb : planBytes (readPlan s (readJob f .job) .plan) ≡ s = ap planBytes (x .plan) ∙ plan-written-back s (readJob f .job) (j .sound) bs (x .fault) in
     let ok : planFault s (jobAt f) ≡ none = rw (← j .job) (x .fault) in
     rw (jb, xb) (writes-none _ s out (or-else-i _ _ (j .fault) (or-else-i _ _ ok (room-none out (length s) h))))
-
--- s reads well, as the same job; or, after its job, as the same plan
-pub record JobIn (s : List ℕ) (job : Job) : Type 0 where
-  pub answer : readJob s .answer ≡ Done
-  pub same : SameJob (readJob s .job) job
-
-pub record PlanIn (s : List ℕ) (job : Job) (plan : Plan) : Type 0 where
-  pub answer : readPlan s job .answer ≡ Done
-  pub same : SamePlan (readPlan s job .plan) plan
 
 pub job-reread : (job : Job) (out : List ℕ) → Words (jobNumbers job) → writeJob job out .answer ≡ Done →
     JobIn (take (length (jobBytes job)) (writeJob job out .buffer)) job

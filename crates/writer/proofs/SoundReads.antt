@@ -116,7 +116,8 @@ record Holds (s : List ℕ) (job : Job) : Type 0 where
   pub node-stands : (i : ℕ) → i < nodes job → Stands s (8 + 4 * i) (nodeNumbers job i) (8 + 4 * i + 4)
   pub task-count : tasks job ≡ numberAt s (taskSection (nodes job))
   pub task-stands : (j : ℕ) → j < tasks job →
-      Stands s (taskSection (nodes job) + 4 + (4 + 4 * nodes job) * j) (taskNumbers job (nodes job) j) (taskSection (nodes job) + 4 + (4 + 4 * nodes job) * j + (4 + 4 * nodes job))
+      Stands s (taskSection (nodes job) + 4 + (4 + 4 * nodes job) * j) (taskNumbers job (nodes job) j)
+      (taskSection (nodes job) + 4 + (4 + 4 * nodes job) * j + (4 + 4 * nodes job))
   pub link-count : links job ≡ numberAt s (linkSection (nodes job) (tasks job))
   pub links-stand : (k : ℕ) → k < links job →
       Stands s (linkSection (nodes job) (tasks job) + 4 + 12 * k) (linkNumbers (link job k)) (linkSection (nodes job) (tasks job) + 4 + 12 * k + 12)
@@ -202,15 +203,24 @@ job-of : (s : List ℕ) (p n m : ℕ) → p ≡ nodeCount s → n ≡ numberAt s
     GoodTasks s (taskSection p) p → GoodLinks s (linkSection p n) n → length s ≤ jobLength p n m → GoodJob s
 job-of s p n m ep en em v a b c e = record { version = v; nodes = a; tasks = rw ep at b; links = rw (en, ep) at c; most = rw (em, en, ep) at e }
 
-job-in : (s : List ℕ) (job : Job) → Sound job → Stands s 0 (jobNumbers job) (length s) → GoodJob s
-job-in s job h st =
-    let d = holds s job (rw (job-numbers job (h .nodes-most) (h .tasks-most) (h .links-most)) at st) in
+job-in : (s : List ℕ) (job : Job) → Sound job → Holds s job → GoodJob s
+job-in s job h d =
     job-of s (nodes job) (tasks job) (links job) (d .node-count) (d .task-count) (d .link-count) (omega (arith, h .version, d .version, d .end))
     (nodes-in s job h d) (tasks-in s job h d) (links-in s job h d) (omega (arith, d .end))
 
-pub sound-job-reads : (job : Job) → Sound job → jobFault (jobBytes job) ≡ none
-unfolding jobBytes
-sound-job-reads job h = good-job _ (job-in _ job h (pack-stands (jobNumbers job) (job-words job h)))
+module _ (job : Job) (h : Sound job) where
+  job-holds : Holds (jobBytes job) job
+  unfolding jobBytes
+  job-holds =
+      let s = jobBytes job in
+      let counts = job-numbers job (h .nodes-most) (h .tasks-most) (h .links-most) in
+      holds s job (subst (λ vs. Stands s 0 vs (length s)) counts (pack-stands (jobNumbers job) (job-words job h)))
+
+  pub sound-job-reads : jobFault (jobBytes job) ≡ none
+  sound-job-reads = good-job _ (job-in _ job h job-holds)
+
+  pub sound-job-length : jobLength (nodes job) (tasks job) (links job) ≡ length (jobBytes job)
+  sound-job-length = job-holds .end
 
 pub sound-plan-reads : (job : Job) (plan : Plan) → Sound job → PlanSound job plan → planFault (planBytes plan) job ≡ none
 unfolding planBytes

@@ -14,7 +14,7 @@ use Rattle.reader.specs.Sound.{Sound, PlanSound}
 use Rattle.reader.specs.JobFile.{jobAt, readJob}
 use Rattle.reader.specs.PlanFile.{planLength, placesAt, planAt, readPlan}
 use Rattle.writer.specs.Write.{jobBytes, planBytes, roomFault, writeJobFault, writePlanFault}
-use Rattle.writer.specs.Equality.{SamePlan}
+use Rattle.writer.specs.Equality.{SamePlan, PlanIn}
 use Rattle.reader.specs.Number.{Bytes}
 use Rattle.reader.proofs.Accepted.{plan-good}
 use Rattle.reader.proofs.FillLaws.{fill-get, fill-same}
@@ -24,7 +24,6 @@ use Rattle.reader.proofs.Promise.{job-done}
 use Rattle.writer.proofs.RoundTrip.{job-written-back, plan-read-back}
 use Rattle.writer.proofs.WordLaws.{plan-words}
 use Rattle.writer.proofs.SoundReads.{sound-job-reads, sound-plan-reads}
-use Rattle.writer.proofs.ReadWrite.{PlanIn}
 
 pub sound-job-written : (job : Job) (out : List ℕ) → Sound job → writeJobFault job out ≡ roomFault out (length (jobBytes job))
 unfolding writeJobFault _or-else_
@@ -60,7 +59,8 @@ filled-plan : (s : List ℕ) (plan : Plan) (n : ℕ) (f : ℕ → Place) → n �
 unfolding planAt placesAt
 filled-plan s plan n f m c e same =
     let places : placesAt s n ≡ plan .places = fill-same _ f (replicate maxTasks noPlace) n (λ j p.
-    sym (place-at s n j m p) ∙ same .same-place j (rw (same .task-count, ← c) p) ∙ ap (λ l. getD l j noPlace) e ∙ fill-get f (replicate maxTasks noPlace) noPlace n j p m) ∙ sym e in
+    sym (place-at s n j m p) ∙ same .same-place j (rw (same .task-count, ← c) p)
+    ∙ ap (λ l. getD l j noPlace) e ∙ fill-get f (replicate maxTasks noPlace) noPlace n j p m) ∙ sym e in
     ap₂ (λ v k. record { version = v; «task_count» = k; places = placesAt s n }) (same .version) (same .task-count)
     ∙ ap (λ l. record { version = plan .version; «task_count» = plan .«task_count»; places = l }) places
 

@@ -7,7 +7,8 @@ use Rattle.reader.specs.declared.job.Job.{Job}
 use Rattle.reader.specs.declared.plan.Plan.{Plan}
 use Rattle.reader.specs.declared.refusal.Refusal.the-variants.{ShortBuffer}
 use Rattle.reader.specs.JobFile.{jobAt}
-use Rattle.reader.proofs.FitLaws.{FaultFits, fits-at, fits-unless, fits-or-else, job-fits, plan-fits}
+use Rattle.reader.specs.Refusals.{FaultFits}
+use Rattle.reader.proofs.FitLaws.{fits-at, fits-unless, fits-or-else, job-fits, plan-fits}
 use Rattle.reader.proofs.Promise.{job-sound}
 use Rattle.reader.proofs.LengthLaws.{job-most, plan-most}
 use Rattle.writer.specs.Write.{jobBytes, planBytes, roomFault, writeJobFault, writePlanFault}

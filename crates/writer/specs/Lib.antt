@@ -1,3 +1,4 @@
 pub mod Write
 pub mod Puts
 pub mod Equality
+pub mod Samples

@@ -11,6 +11,7 @@ use Rattle.reader.specs.declared.plan.Plan.{Plan}
 use Rattle.reader.specs.declared.refusal.Refusal.{Refusal}
 use Rattle.reader.specs.declared.refusal.Refusal.the-variants.{ShortBuffer}
 use Rattle.reader.specs.declared.refusal.Answer.{Answer}
+use Rattle.reader.specs.declared.refusal.Answer.the-variants.{Done}
 use Rattle.reader.specs.First.{_or-else_, unless}
 use Rattle.reader.specs.Limits.{maxNodes, maxTasks, maxLinks}
 use Rattle.reader.specs.Entries.{nodes, tasks, links, detect, deadline, run, link, place}
@@ -96,6 +97,10 @@ pub record Written : Type 0 where
 
 abbrev pub writes : Option Refusal → List ℕ → List ℕ → Written
 writes fault s out = record { answer = answered fault; buffer = bufferAfter fault s out }
+
+-- the whole of s written
+abbrev pub wrote : List ℕ → List ℕ → Written
+wrote s out = record { answer = Done; buffer = s ++ drop (length s) out }
 
 unfoldable pub writeJob : Job → List ℕ → Written
 writeJob job out = writes (writeJobFault job out) (jobBytes job) out

@@ -1,29 +1,61 @@
 -- `judge::judge_plan` meets its contract.
+use mathlib.Core.Path.{refl}
+use Rattle.judge.proofs.TaskLaws.{placeable}
+use Rattle.judge.proofs.PlanLaws.{timed, low, fillable, tasks-refused, links-refused, faults-answered}
 use borrow.Author.Needs.{needs}
-use Rattle.judge.proofs.PlanLaws.{timed, senders, low, tasks-refused, links-refused, faults-answered}
 use Rattle.judge.proofs.judge_plan.Statement.{statement}
 use Rattle.judge.proofs.judge_plan.Tie as tie
 
+place-copies-requires : tie.Need-place-copies-requires
+place-copies-requires c κs =
+    let at-pre = c .before .before .before .before .before .before .before in
+    (placeable _ _ (at-pre .pre .0) (at-pre .pre .1), search needs)
+
 returns : tie.Need-returns
-returns c = tasks-refused _ _ (c .before .before .before .pre .0) (c .before .before .before .pre .1) _ (c .before .before .place-copies .ensures) _ (c .enum-told2 .given .1)
+returns c =
+    let at-pre = c .before .before .before .before .before .before .before .before .before .before in
+    tasks-refused _ _ (at-pre .pre .0) (at-pre .pre .1) _ _ (c .before .before .place-copies .ensures (at-pre .args .job)) _ (c .enum-told2 .given .1)
 
 walk-links-requires : tie.Need-walk-links-requires
-walk-links-requires c κs = timed _ _ (c .before .before .before .before .pre .0) (c .before .before .before .before .pre .1) _ (c .before .before .before .place-copies .ensures .copied)
+walk-links-requires c κs =
+    let at-place-copies = c .before .before .before .before .before .before .before .before in
+    let at-pre = at-place-copies .before .before .before .before .before .before .before .before in
+    (timed _ _ (at-pre .pre .0) (at-pre .pre .1) _ (at-place-copies .place-copies .ensures (at-pre .args .job) .tabled .copied), refl)
 
 returns-2 : tie.Need-returns-2
-returns-2 c = links-refused _ _ (c .before .before .before .before .before .before .before .pre .0) (c .before .before .before .before .before .before .before .pre .1) _ (c .before .before .before .before .before .before .place-copies .ensures) (c .before .before .before .before .enum-told .given .1) _ (c .before .before .walk-links .ensures) _ (c .enum-told4 .given .1)
+returns-2 c =
+    let at-enum-told = c .before .before .before .before .before .before .before .before .before in
+    let at-pre = at-enum-told .before .before .before .before .before .before .before .before .before .before in
+    links-refused _ _ (at-pre .pre .0) (at-pre .pre .1) _ _ (at-enum-told .before .before .place-copies .ensures (at-pre .args .job)) _ _
+    (c .before .before .walk-links .ensures (at-pre .args .job)) (at-enum-told .enum-told .given .1) _ (c .enum-told4 .given .1)
 
 fault-sets-requires : tie.Need-fault-sets-requires
-fault-sets-requires c κs = senders _ _ (c .before .before .before .before .before .before .before .before .before .before .before .before .pre .0) (c .before .before .before .before .before .before .before .before .before .before .before .before .pre .1) _ (c .before .before .before .before .before .before .before .before .before .before .before .place-copies .ensures .copied) _ (c .before .before .before .before .before .before .before .walk-links .ensures .weak)
+fault-sets-requires c κs =
+    let at-walk-links = c .before .before .before .before .before in
+    let at-place-copies = at-walk-links .before .before .before .before .before .before .before .before .before in
+    let at-pre = at-place-copies .before .before .before .before .before .before .before .before in
+    fillable _ _ (at-pre .pre .0) (at-pre .pre .1) _ _ (at-place-copies .place-copies .ensures (at-pre .args .job)) _ _
+    (at-walk-links .walk-links .ensures (at-pre .args .job))
 
 judge-faults-requires : tie.Need-judge-faults-requires
-judge-faults-requires c κs = low _ _ (c .before .before .before .before .before .before .before .before .before .before .before .before .before .pre .0) (c .before .before .before .before .before .before .before .before .before .before .before .before .before .pre .1) _ (c .before .before .before .before .before .before .before .before .before .before .before .before .place-copies .ensures .copied) _ (c .before .before .before .before .before .before .before .before .walk-links .ensures .weak) _ (c .fault-sets .ensures)
+judge-faults-requires c κs =
+    let up1 = c .before .before .before .before .before .before .before .before .before .before .before .before .before .before .before .before .before in
+    let at-place-copies = up1 .before .before in
+    let at-pre = at-place-copies .before .before .before .before .before .before .before .before in
+    low _ _ (at-pre .pre .0) (at-pre .pre .1) _ _ (at-place-copies .place-copies .ensures (at-pre .args .job))
 
 returns-3 : tie.Need-returns-3
-returns-3 c = faults-answered _ _ (c .before .before .before .before .before .before .before .before .before .before .before .before .before .before .pre .0) (c .before .before .before .before .before .before .before .before .before .before .before .before .before .before .pre .1) _ (c .before .before .before .before .before .before .before .before .before .before .before .before .before .place-copies .ensures) (c .before .before .before .before .before .before .before .before .before .before .before .enum-told .given .1) _ (c .before .before .before .before .before .before .before .before .before .walk-links .ensures) (c .before .before .before .before .before .before .before .enum-told3 .given .1) _ (c .before .fault-sets .ensures) _ (c .judge-faults .ensures)
+returns-3 c =
+    let at-fault-sets = c .before .before .before .before .before in
+    let at-enum-told3 = at-fault-sets .before .before .before .before in
+    let at-enum-told = at-enum-told3 .before .before .before .before .before .before .before .before .before in
+    let at-pre = at-enum-told .before .before .before .before .before .before .before .before .before .before in
+    faults-answered _ _ (at-pre .pre .0) (at-pre .pre .1) _ _ (at-enum-told .before .before .place-copies .ensures (at-pre .args .job)) _ _
+    (at-enum-told3 .before .before .walk-links .ensures (at-pre .args .job)) (at-enum-told .enum-told .given .1) (at-enum-told3 .enum-told3 .given .1) _
+    (at-fault-sets .fault-sets .ensures) _ (c .judge-faults .ensures)
 
 pub judge-plan-spec : {M : Type 1} → statement M
 judge-plan-spec =
     tie.close
-    (tie.spec (λ c κs. search needs) (λ c. search needs) (λ c. search needs) returns walk-links-requires (λ c. search needs) (λ c. search needs) returns-2
-    (λ c. search needs) fault-sets-requires judge-faults-requires returns-3)
+    (tie.spec (λ c. search needs) place-copies-requires (λ c. search needs) (λ c. search needs) returns (λ c. search needs) walk-links-requires
+    (λ c. search needs) (λ c. search needs) returns-2 fault-sets-requires judge-faults-requires returns-3)

@@ -1,13 +1,10 @@
-use mathlib.Core.Path.{sym, ap, _∙_}
+use Rattle.seqopchi.proofs.ReadLaws.{given}
 use borrow.Author.Needs.{needs}
-use Rattle.reader.specs.Refusals.{result}
 use Rattle.seqopchi.proofs.seqopchi_plan.Statement.{statement}
 use Rattle.seqopchi.proofs.seqopchi_plan.Tie as tie
 
 returns : tie.Need-returns
-returns c =
-    let e = c .before .before .before .plan-file .ensures in
-    (c .result .ensures ∙ sym (ap (λ w. result (w .answer)) e), sym (ap (λ w. w .buffer) e))
+returns c = given (c .before .before .before .plan-file .ensures) (c .result .ensures)
 
 pub seqopchi-plan-spec : {M : Type 1} → statement M
 seqopchi-plan-spec =

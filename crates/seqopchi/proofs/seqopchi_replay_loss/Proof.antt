@@ -1,13 +1,10 @@
-use mathlib.Core.Path.{sym, ap, _∙_}
-use Rattle.reader.specs.Refusals.{result}
+use Rattle.seqopchi.proofs.ReadLaws.{given}
 use borrow.Author.Needs.{needs}
 use Rattle.seqopchi.proofs.seqopchi_replay_loss.Statement.{statement}
 use Rattle.seqopchi.proofs.seqopchi_replay_loss.Tie as tie
 
 returns : tie.Need-returns
-returns c =
-    let e = c .before .before .before .replay-files .ensures in
-    (c .result .ensures ∙ sym (ap (λ w. result (w .answer)) e), sym (ap (λ w. w .buffer) e))
+returns c = given (c .before .before .before .replay-files .ensures) (c .result .ensures)
 
 pub seqopchi-replay-loss-spec : {M : Type 1} → statement M
 seqopchi-replay-loss-spec =

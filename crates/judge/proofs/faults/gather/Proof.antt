@@ -1,7 +1,7 @@
 -- `judge::faults::gather` meets its contract.
-use borrow.Author.Needs.{needs}
 use native.Mathlib.Omega.{arith}
 use Rattle.judge.proofs.GatherLaws.{Gathering, gather-start, gather-more, gather-done, sender-low, sender-part}
+use borrow.Author.Needs.{needs}
 use Rattle.judge.proofs.faults.gather.Statement.{statement}
 use Rattle.judge.proofs.faults.gather.Tie as tie
 
@@ -39,7 +39,9 @@ loop-less : tie.Need-loop-less Inv-loop μ-loop
 loop-less c = omega (arith, sender-part (c .before .before .before .loop .left) (omega arith) (omega arith) _ (c .bit-of-task .ensures))
 
 loop-again : tie.Need-loop-again Inv-loop μ-loop
-loop-again c = gather-more _ _ _ _ (c .before .before .before .loop .left) _ (c .before .before .before .loop .inv) (omega arith) (omega arith) (c .bit-of-task .ensures)
+loop-again c =
+    let at-loop = c .before .before .before in
+    gather-more _ _ _ _ (at-loop .loop .left) _ (at-loop .loop .inv) (omega arith) (omega arith) (c .bit-of-task .ensures)
 
 returns : tie.Need-returns Inv-loop μ-loop
 returns c = gather-done _ _ _ _ _ (c .before .loop .inv) (c .loop-test .left)

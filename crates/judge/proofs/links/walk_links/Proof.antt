@@ -1,117 +1,118 @@
 -- `judge::links::walk_links` meets its contract.
-use borrow.Author.Needs.{needs}
 use Prim.Native.Nat.{_-_}
+use mathlib.Core.List.{[]}
 use native.Mathlib.Omega.{arith}
+use Rattle.reader.specs.declared.job.Job.{Job}
+use Rattle.reader.specs.Entries.{emptyJob}
+use Rattle.copies.specs.Table.{table}
+use Rattle.judge.specs.Links.{linked}
 use Rattle.judge.proofs.NoteLaws.{seen-last, seen-done, seen-stop, seen-on}
-use Rattle.judge.proofs.LinkLaws.{Walking, walk-start, walk-more, walk-done, from-index, to-index, primary-fits, backup-fits, primary-index, backup-index}
+use Rattle.judge.proofs.LinkLaws.{Walking, walk-start, walk-more, walk-done, primary-fits, backup-fits}
+use Rattle.judge.proofs.LinkLaws.{primary-index, backup-index}
+use borrow.Author.Needs.{needs}
 use Rattle.judge.proofs.links.walk_links.Statement.{statement}
 use Rattle.judge.proofs.links.walk_links.Tie as tie
 
 abbrev Inv-loop : tie.InvT-loop
-Inv-loop job copies into₀ primary₀ backup₀ n k₀ into primary backup k = Walking job copies k into primary backup
+Inv-loop n node start finish into₀ links primary₀ backup₀ k₀ into primary backup k =
+    (job : Job) → Walking (linked job links n) (table node start finish []) k into primary backup
 
 abbrev μ-loop : tie.MeasureT-loop
-μ-loop job copies into₀ primary₀ backup₀ n k₀ into primary backup k = n - k
+μ-loop n node start finish into₀ links primary₀ backup₀ k₀ into primary backup k = n - k
 
 loop-holds : tie.Need-loop-holds Inv-loop μ-loop
-loop-holds c = walk-start _ _
+loop-holds c = λ job. walk-start _ _ _ (c .pre .1)
 
-mul-copy-at : tie.Need-mul-copy-at Inv-loop μ-loop
-mul-copy-at c = omega (arith, from-index _ _ (c .before .before .before .before .before .before .before .before .before .pre) _ (c .before .before .before .before .before .before .before .loop-test .taken))
+index-requires : tie.Need-index-requires Inv-loop μ-loop
+index-requires c κs = c .before .before .before .pre .0 .from _ (c .before .loop-test .taken)
 
-copy-at-requires : tie.Need-copy-at-requires Inv-loop μ-loop
-copy-at-requires c κs = omega (arith, from-index _ _ (c .before .before .before .before .before .before .before .before .before .pre) _ (c .before .before .before .before .before .before .before .loop-test .taken))
-
-mul-copy-at-2 : tie.Need-mul-copy-at-2 Inv-loop μ-loop
-mul-copy-at-2 c = omega (arith, from-index _ _ (c .before .before .before .before .before .before .before .before .before .before .before .before .before .before .pre) _ (c .before .before .before .before .before .before .before .before .before .before .before .before .loop-test .taken))
-
-add-copy-at : tie.Need-add-copy-at Inv-loop μ-loop
-add-copy-at c = omega (arith, from-index _ _ (c .before .before .before .before .before .before .before .before .before .before .before .before .before .before .pre) _ (c .before .before .before .before .before .before .before .before .before .before .before .before .loop-test .taken))
-
-copy-at-requires-2 : tie.Need-copy-at-requires-2 Inv-loop μ-loop
-copy-at-requires-2 c κs = omega (arith, from-index _ _ (c .before .before .before .before .before .before .before .before .before .before .before .before .before .before .pre) _ (c .before .before .before .before .before .before .before .before .before .before .before .before .loop-test .taken))
-
-mul-copy-at-3 : tie.Need-mul-copy-at-3 Inv-loop μ-loop
-mul-copy-at-3 c = omega (arith, to-index _ _ (c .before .before .before .before .before .before .before .before .before .before .before .before .before .before .before .before .before .before .before .pre) _ (c .before .before .before .before .before .before .before .before .before .before .before .before .before .before .before .before .before .loop-test .taken))
-
-copy-at-requires-3 : tie.Need-copy-at-requires-3 Inv-loop μ-loop
-copy-at-requires-3 c κs = omega (arith, to-index _ _ (c .before .before .before .before .before .before .before .before .before .before .before .before .before .before .before .before .before .before .before .pre) _ (c .before .before .before .before .before .before .before .before .before .before .before .before .before .before .before .before .before .loop-test .taken))
-
-mul-copy-at-4 : tie.Need-mul-copy-at-4 Inv-loop μ-loop
-mul-copy-at-4 c = omega (arith, to-index _ _ (c .before .before .before .before .before .before .before .before .before .before .before .before .before .before .before .before .before .before .before .before .before .before .before .before .pre) _ (c .before .before .before .before .before .before .before .before .before .before .before .before .before .before .before .before .before .before .before .before .before .before .loop-test .taken))
-
-add-copy-at-2 : tie.Need-add-copy-at-2 Inv-loop μ-loop
-add-copy-at-2 c = omega (arith, to-index _ _ (c .before .before .before .before .before .before .before .before .before .before .before .before .before .before .before .before .before .before .before .before .before .before .before .before .pre) _ (c .before .before .before .before .before .before .before .before .before .before .before .before .before .before .before .before .before .before .before .before .before .before .loop-test .taken))
-
-copy-at-requires-4 : tie.Need-copy-at-requires-4 Inv-loop μ-loop
-copy-at-requires-4 c κs = omega (arith, to-index _ _ (c .before .before .before .before .before .before .before .before .before .before .before .before .before .before .before .before .before .before .before .before .before .before .before .before .pre) _ (c .before .before .before .before .before .before .before .before .before .before .before .before .before .before .before .before .before .before .before .before .before .before .loop-test .taken))
+index-requires-2 : tie.Need-index-requires-2 Inv-loop μ-loop
+index-requires-2 c κs = c .before .before .before .before .pre .0 .to _ (c .before .before .loop-test .taken)
 
 in-time-requires : tie.Need-in-time-requires Inv-loop μ-loop
-in-time-requires c κs = primary-fits _ _ (c .before .before .before .before .before .before .before .before .before .before .before .before .before .before .before .before .before .before .before .before .before .before .before .before .before .pre) _ (c .before .before .before .before .before .before .before .before .before .before .before .before .before .before .before .before .before .before .before .before .before .before .before .loop-test .taken) _ (c .before .before .before .before .before .before .before .before .before .before .before .before .before .before .before .copy-at .ensures)
+in-time-requires c κs =
+    let at-copy-at = c .before .before .before in
+    let at-loop-test = at-copy-at .before .before .before .before in
+    primary-fits _ _ _ (at-loop-test .before .before .pre .0) _ (at-loop-test .loop-test .taken) _ (at-copy-at .before .before .index .ensures .0) _
+    (at-copy-at .copy-at .ensures)
 
 in-time-requires-2 : tie.Need-in-time-requires-2 Inv-loop μ-loop
-in-time-requires-2 c κs = primary-fits _ _ (c .before .before .before .before .before .before .before .before .before .before .before .before .before .before .before .before .before .before .before .before .before .before .before .before .before .before .before .pre) _ (c .before .before .before .before .before .before .before .before .before .before .before .before .before .before .before .before .before .before .before .before .before .before .before .before .before .loop-test .taken) _ (c .before .before .before .before .before .before .before .before .before .before .before .before .before .before .before .before .before .copy-at .ensures)
+in-time-requires-2 c κs = in-time-requires (c .before .before) κs
 
 in-time-requires-3 : tie.Need-in-time-requires-3 Inv-loop μ-loop
-in-time-requires-3 c κs = backup-fits _ _ (c .before .before .before .before .before .before .before .before .before .before .before .before .before .before .before .before .before .before .before .before .before .before .before .before .before .before .before .before .before .pre) _ (c .before .before .before .before .before .before .before .before .before .before .before .before .before .before .before .before .before .before .before .before .before .before .before .before .before .before .before .loop-test .taken) _ (c .before .before .before .before .before .before .before .before .before .before .before .before .before .before .copy-at2 .ensures)
-
-mul-into : tie.Need-mul-into Inv-loop μ-loop
-mul-into c = omega (arith, to-index _ _ (c .before .before .before .before .before .before .before .before .before .before .before .before .before .before .before .before .before .before .before .before .before .before .before .before .before .before .before .before .before .before .before .pre) _ (c .before .before .before .before .before .before .before .before .before .before .before .before .before .before .before .before .before .before .before .before .before .before .before .before .before .before .before .before .before .loop-test .taken))
-
-array-read-into : tie.Need-array-read-into Inv-loop μ-loop
-array-read-into c = to-index _ _ (c .before .before .before .before .before .before .before .before .before .before .before .before .before .before .before .before .before .before .before .before .before .before .before .before .before .before .before .before .before .before .before .pre) _ (c .before .before .before .before .before .before .before .before .before .before .before .before .before .before .before .before .before .before .before .before .before .before .before .before .before .before .before .before .before .loop-test .taken)
+in-time-requires-3 c κs =
+    let at-copy-at2 = c .before .before .before .before .before .before in
+    let at-index = at-copy-at2 .before .before .before in
+    let at-pre = at-index .before .before .before .before in
+    backup-fits _ _ _ (at-pre .pre .0) _ (at-index .before .before .loop-test .taken) _ (at-index .index .ensures .0) _ (at-copy-at2 .copy-at2 .ensures)
 
 in-time-requires-4 : tie.Need-in-time-requires-4 Inv-loop μ-loop
-in-time-requires-4 c κs = backup-fits _ _ (c .before .before .before .before .before .before .before .before .before .before .before .before .before .before .before .before .before .before .before .before .before .before .before .before .before .before .before .before .before .before .before .pre) _ (c .before .before .before .before .before .before .before .before .before .before .before .before .before .before .before .before .before .before .before .before .before .before .before .before .before .before .before .before .before .loop-test .taken) _ (c .before .before .before .before .before .before .before .before .before .before .before .before .before .before .before .before .copy-at2 .ensures)
+in-time-requires-4 c κs = in-time-requires-3 (c .before .before .before) κs
 
 weak-bit-requires : tie.Need-weak-bit-requires Inv-loop μ-loop
-weak-bit-requires c κs = from-index _ _ (c .before .before .before .before .before .before .before .before .before .before .before .before .before .before .before .before .before .before .before .before .before .before .before .before .before .before .before .before .before .before .before .before .pre) _ (c .before .before .before .before .before .before .before .before .before .before .before .before .before .before .before .before .before .before .before .before .before .before .before .before .before .before .before .before .before .before .loop-test .taken)
+weak-bit-requires c κs = c .before .before .before .before .before .before .before .before .before .before .before .before .before .index .ensures .1
 
-mul-into-2 : tie.Need-mul-into-2 Inv-loop μ-loop
-mul-into-2 c = omega (arith, to-index _ _ (c .before .before .before .before .before .before .before .before .before .before .before .before .before .before .before .before .before .before .before .before .before .before .before .before .before .before .before .before .before .before .before .before .before .pre) _ (c .before .before .before .before .before .before .before .before .before .before .before .before .before .before .before .before .before .before .before .before .before .before .before .before .before .before .before .before .before .before .before .loop-test .taken))
-
-array-write-into : tie.Need-array-write-into Inv-loop μ-loop
-array-write-into c = to-index _ _ (c .before .before .before .before .before .before .before .before .before .before .before .before .before .before .before .before .before .before .before .before .before .before .before .before .before .before .before .before .before .before .before .before .before .pre) _ (c .before .before .before .before .before .before .before .before .before .before .before .before .before .before .before .before .before .before .before .before .before .before .before .before .before .before .before .before .before .before .before .loop-test .taken)
+-- the turn, from its last call
+abbrev turn : tie.After-weak-bit Inv-loop μ-loop → tie.In-loop Inv-loop μ-loop
+turn c = c .before .before .before .before .before .before .before .before .before .before .before .before .before .before .before .before
 
 add-k : tie.Need-add-k Inv-loop μ-loop
-add-k c = omega (arith, c .before .before .before .before .before .before .before .before .before .before .before .before .before .before .before .before .before .before .before .before .before .before .before .before .before .before .before .before .before .before .before .loop-test .taken, c .before .before .before .before .before .before .before .before .before .before .before .before .before .before .before .before .before .before .before .before .before .before .before .before .before .before .before .before .before .before .before .before .before .pre .sound .links-most)
+add-k c = omega (arith, turn c .loop-test .taken, turn c .before .before .pre .0 .few)
 
 loop-less : tie.Need-loop-less Inv-loop μ-loop
-loop-less c = omega (arith, c .before .before .before .before .before .before .before .before .before .before .before .before .before .before .before .before .before .before .before .before .before .before .before .before .before .before .before .before .before .before .before .loop-test .taken)
+loop-less c = omega (arith, turn c .loop-test .taken)
 
 loop-again : tie.Need-loop-again Inv-loop μ-loop
 loop-again c =
-    walk-more _ _ (c .before .before .before .before .before .before .before .before .before .before .before .before .before .before .before .before .before .before .before .before .before .before .before .before .before .before .before .before .before .before .before .before .before .pre) _ (c .before .before .before .before .before .before .before .before .before .before .before .before .before .before .before .before .before .before .before .before .before .before .before .before .before .before .before .before .before .before .before .loop-test .taken) _ _ _ (c .before .before .before .before .before .before .before .before .before .before .before .before .before .before .before .before .before .before .before .before .before .before .before .before .before .before .before .before .before .before .before .before .loop .inv) _ _ _ _
-    (record { primary-from = c .before .before .before .before .before .before .before .before .before .before .before .before .before .before .before .before .before .before .before .before .before .before .before .copy-at .ensures; backup-from = c .before .before .before .before .before .before .before .before .before .before .before .before .before .before .before .before .before .before .copy-at2 .ensures; primary-to = c .before .before .before .before .before .before .before .before .before .before .before .before .before .copy-at3 .ensures; backup-to = c .before .before .before .before .before .before .before .before .copy-at4 .ensures })
-    _ _ _ _ (c .before .before .before .before .before .before .before .in-time .ensures) (c .before .before .before .before .before .in-time2 .ensures) (c .before .before .before .in-time3 .ensures) (c .before .in-time4 .ensures)
-    _ _ _ _ (c .before .before .before .before .before .before .noted .ensures) (c .before .before .before .before .noted2 .ensures) (c .before .before .noted3 .ensures) (c .weak-bit .ensures)
+    let at-noted3 = c .before .before .before in
+    let at-in-time2 = at-noted3 .before .before .before in
+    let at-copy-at4 = at-in-time2 .before .before .before in
+    let at-copy-at = at-copy-at4 .before .before .before in
+    let at-loop-test = at-copy-at .before .before .before .before in
+    λ job. walk-more _ _ (at-loop-test .before .before .pre .0) _ (at-loop-test .loop-test .taken) _ _ (at-copy-at .before .before .index .ensures .0)
+    (at-copy-at .before .index2 .ensures .0) _ _ _ (at-loop-test .before .loop .inv job) _ _ _ _ (at-copy-at .copy-at .ensures)
+    (at-copy-at4 .before .before .copy-at2 .ensures) (at-copy-at4 .before .copy-at3 .ensures) (at-copy-at4 .copy-at4 .ensures) _ _ _ _
+    (at-in-time2 .before .before .in-time .ensures) (at-in-time2 .in-time2 .ensures) (at-noted3 .before .in-time3 .ensures) (c .before .in-time4 .ensures) _
+    _ _ _ (at-in-time2 .before .noted .ensures) (at-noted3 .before .before .noted2 .ensures) (at-noted3 .noted3 .ensures) (c .weak-bit .ensures)
+
+array-copy-out-l-2 : tie.Need-array-copy-out-l-2 Inv-loop μ-loop
+array-copy-out-l-2 c = primary-index _ _ (c .before .before .before .pre .0) _ _ _ _ (c .before .before .loop .inv emptyJob) (omega arith) (c .if1 .taken)
 
 mul-l-2 : tie.Need-mul-l-2 Inv-loop μ-loop
-mul-l-2 c = omega (arith, primary-index _ _ (c .before .before .before .pre) _ _ _ _ (c .before .before .loop .inv) (omega arith) (c .if1 .taken), c .before .before .before .pre .sound .links-most)
-
-element-copy-out-l-2 : tie.Need-element-copy-out-l-2 Inv-loop μ-loop
-element-copy-out-l-2 c = omega (arith, primary-index _ _ (c .before .before .before .pre) _ _ _ _ (c .before .before .loop .inv) (omega arith) (c .if1 .taken), c .before .before .before .pre .sound .links-most)
+mul-l-2 c = omega (arith, array-copy-out-l-2 c)
 
 returns : tie.Need-returns Inv-loop μ-loop
-returns c = walk-done _ _ (c .before .before .before .before .before .before .pre) _ _ _ _ (c .before .before .before .before .before .loop .inv) (omega arith) _ (seen-stop _ _ _ (c .before .before .before .if1 .taken))
+returns c =
+    let at-if1 = c .before .before .before in
+    let at-pre = at-if1 .before .before .before in
+    λ job. walk-done _ _ (at-pre .pre .0) _ _ _ _ (at-if1 .before .before .loop .inv job) (omega arith) _ (seen-stop _ _ _ (at-if1 .if1 .taken))
+
+array-copy-out-l-3 : tie.Need-array-copy-out-l-3 Inv-loop μ-loop
+array-copy-out-l-3 c =
+    let at-loop = c .before .before .before in
+    backup-index _ _ (at-loop .before .pre .0) _ _ _ _ (at-loop .loop .inv emptyJob) (omega arith) (c .if2 .taken)
 
 mul-l-3 : tie.Need-mul-l-3 Inv-loop μ-loop
-mul-l-3 c = omega (arith, backup-index _ _ (c .before .before .before .before .pre) _ _ _ _ (c .before .before .before .loop .inv) (omega arith) (c .if2 .taken), c .before .before .before .before .pre .sound .links-most)
-
-element-copy-out-l-3 : tie.Need-element-copy-out-l-3 Inv-loop μ-loop
-element-copy-out-l-3 c = omega (arith, backup-index _ _ (c .before .before .before .before .pre) _ _ _ _ (c .before .before .before .loop .inv) (omega arith) (c .if2 .taken), c .before .before .before .before .pre .sound .links-most)
+mul-l-3 c = omega (arith, array-copy-out-l-3 c)
 
 returns-2 : tie.Need-returns-2 Inv-loop μ-loop
-returns-2 c = walk-done _ _ (c .before .before .before .before .before .before .before .pre) _ _ _ _ (c .before .before .before .before .before .before .loop .inv) (omega arith) _ (seen-on _ _ _ _ (c .before .before .before .before .if1 .left) (seen-last _ _ (c .before .before .before .if2 .taken)))
+returns-2 c =
+    let at-if2 = c .before .before .before in
+    let at-loop = at-if2 .before .before .before in
+    λ job. walk-done _ _ (at-loop .before .pre .0) _ _ _ _ (at-loop .loop .inv job) (omega arith) _
+    (seen-on _ _ _ _ (at-if2 .before .if1 .left) (seen-last _ _ (at-if2 .if2 .taken)))
 
 returns-3 : tie.Need-returns-3 Inv-loop μ-loop
-returns-3 c = walk-done _ _ (c .before .before .before .before .pre) _ _ _ _ (c .before .before .before .loop .inv) (omega arith) _ (seen-on _ _ _ _ (c .before .if1 .left) (seen-done _ _ (c .if2 .left)))
+returns-3 c =
+    let at-loop = c .before .before .before in
+    λ job. walk-done _ _ (at-loop .before .pre .0) _ _ _ _ (at-loop .loop .inv job) (omega arith) _
+    (seen-on _ _ _ _ (c .before .if1 .left) (seen-done _ _ (c .if2 .left)))
 
 pub walk-links-spec : {M : Type 1} → statement M
 walk-links-spec =
     tie.close
-    (tie.spec Inv-loop μ-loop (λ c. search needs) loop-holds (λ c. search needs) (λ c. search needs) (λ c. search needs) (λ c. search needs) mul-copy-at
-    copy-at-requires mul-copy-at-2 add-copy-at copy-at-requires-2 mul-copy-at-3 copy-at-requires-3 mul-copy-at-4 add-copy-at-2 copy-at-requires-4
-    in-time-requires (λ c κs. search needs) in-time-requires-2 (λ c κs. search needs) in-time-requires-3 (λ c κs. search needs) mul-into
-    array-read-into in-time-requires-4 weak-bit-requires mul-into-2 array-write-into add-k loop-less loop-again mul-l-2 element-copy-out-l-2
-    (λ c. search needs) (λ c. search needs) returns mul-l-3 element-copy-out-l-3 (λ c. search needs) (λ c. search needs) returns-2 returns-3)
+    (tie.spec Inv-loop μ-loop loop-holds (λ c. search needs) (λ c. search needs) index-requires index-requires-2 (λ c. search needs) (λ c κs. search needs)
+    (λ c. search needs) (λ c. search needs) (λ c κs. search needs) (λ c. search needs) (λ c κs. search needs) (λ c. search needs) (λ c. search needs)
+    (λ c κs. search needs) in-time-requires (λ c κs. search needs) in-time-requires-2 (λ c κs. search needs) in-time-requires-3 (λ c κs. search needs)
+    (λ c. search needs) (λ c. search needs) in-time-requires-4 weak-bit-requires (λ c. search needs) (λ c. search needs) add-k loop-less loop-again mul-l-2
+    array-copy-out-l-2 (λ c. search needs) (λ c. search needs) returns mul-l-3 array-copy-out-l-3 (λ c. search needs) (λ c. search needs) returns-2 returns-3)

@@ -1,10 +1,10 @@
 -- `judge::overlaps::first_overlap` meets its contract.
-use borrow.Author.Needs.{needs}
 use Prim.Native.Nat.{_-_}
 use native.Mathlib.Omega.{arith}
 use Rattle.copies.specs.Table.{table}
 use Rattle.judge.specs.Overlaps.{pairBreach}
 use Rattle.judge.proofs.ScanLaws.{Clear, clear-start, clear-more, clear-stop, clear-done, done-none}
+use borrow.Author.Needs.{needs}
 use Rattle.judge.proofs.overlaps.first_overlap.Statement.{statement}
 use Rattle.judge.proofs.overlaps.first_overlap.Tie as tie
 
@@ -18,10 +18,15 @@ loop-holds : tie.Need-loop-holds Inv-loop μ-loop
 loop-holds c = clear-start _ _
 
 returns : tie.Need-returns Inv-loop μ-loop
-returns c = clear-stop _ _ _ (c .before .before .before .before .loop .inv) _ _ (c .before .before .before .loop-test .taken) (c .before .before .pairs-of .ensures) (c .enum-told2 .given .1)
+returns c =
+    let at-loop-test = c .before .before .before in
+    clear-stop _ _ _ (at-loop-test .before .loop .inv) _ _ (at-loop-test .loop-test .taken) (c .before .before .pairs-of .ensures) (c .enum-told2 .given .1)
 
 loop-again : tie.Need-loop-again Inv-loop μ-loop
-loop-again c = clear-more _ _ _ (c .before .before .before .before .loop .inv) (c .before .before .before .loop-test .taken) (done-none _ _ (c .before .before .pairs-of .ensures) (c .enum-told .given .1))
+loop-again c =
+    let at-loop-test = c .before .before .before in
+    clear-more _ _ _ (at-loop-test .before .loop .inv) (at-loop-test .loop-test .taken)
+    (done-none _ _ (c .before .before .pairs-of .ensures) (c .enum-told .given .1))
 
 returns-2 : tie.Need-returns-2 Inv-loop μ-loop
 returns-2 c = clear-done _ _ _ (c .before .loop .inv) (omega arith)
@@ -29,15 +34,5 @@ returns-2 c = clear-done _ _ _ (c .before .loop .inv) (omega arith)
 pub first-overlap-spec : {M : Type 1} → statement M
 first-overlap-spec =
     tie.close
-    (tie.spec
-    Inv-loop
-    μ-loop
-    loop-holds
-    (λ c κs. search needs)
-    (λ c. search needs)
-    (λ c. search needs)
-    returns
-    (λ c. search needs)
-    (λ c. search needs)
-    loop-again
-    returns-2)
+    (tie.spec Inv-loop μ-loop loop-holds (λ c κs. search needs) (λ c. search needs) (λ c. search needs) returns (λ c. search needs) (λ c. search needs)
+    loop-again returns-2)

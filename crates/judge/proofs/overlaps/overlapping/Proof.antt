@@ -14,8 +14,4 @@ first-overlap-requires c κs = c .before .before .pre .few
 
 pub overlapping-spec : {M : Type 1} → statement M
 overlapping-spec =
-    tie.close (tie.spec
-    (λ c κs. search needs)
-    returns
-    first-overlap-requires
-    (λ c. search needs))
+    tie.close (tie.spec (λ c κs. search needs) returns first-overlap-requires (λ c. search needs))

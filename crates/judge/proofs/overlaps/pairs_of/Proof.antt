@@ -1,5 +1,4 @@
 -- `judge::overlaps::pairs_of` meets its contract.
-use borrow.Author.Needs.{needs}
 use Prim.Native.Nat.{_-_, _<_}
 use native.Mathlib.Omega.{arith}
 use Rattle.reader.specs.declared.refusal.Refusal.the-variants.{Overlap}
@@ -8,6 +7,7 @@ use Rattle.copies.specs.Table.{table}
 use Rattle.judge.specs.Overlaps.{pairBreach}
 use Rattle.judge.proofs.ScanLaws.{Clear, clear-done, kept, broken}
 use Rattle.judge.proofs.OverlapLaws.{pairKept, pair-clear, pair-broken, pairs-skip}
+use borrow.Author.Needs.{needs}
 use Rattle.judge.proofs.overlaps.pairs_of.Statement.{statement}
 use Rattle.judge.proofs.overlaps.pairs_of.Tie as tie
 
@@ -22,10 +22,17 @@ loop-holds c = (record { within = omega arith; none-yet = pairs-skip _ _ }, omeg
 
 returns : tie.Need-returns Inv-loop μ-loop
 unfolding pairBreach
-returns c = broken _ _ _ _ (c .before .before .before .loop .inv .0) (c .before .before .loop-test .taken) (pair-broken _ _ _ _ (c .before .before .before .loop .inv .1) (c .before .pair-clash .ensures) (c .if1 .taken))
+returns c =
+    let at-loop = c .before .before .before in
+    broken _ _ _ _ (at-loop .loop .inv .0) (c .before .before .loop-test .taken)
+    (pair-broken _ _ _ _ (at-loop .loop .inv .1) (c .before .pair-clash .ensures) (c .if1 .taken))
 
 loop-again : tie.Need-loop-again Inv-loop μ-loop
-loop-again c = (kept _ _ _ _ (c .before .before .before .loop .inv .0) (c .before .before .loop-test .taken) (pair-clear _ _ _ _ (c .before .pair-clash .ensures) (c .if1 .left)), omega arith)
+loop-again c =
+    let at-loop = c .before .before .before in (
+      kept _ _ _ _ (at-loop .loop .inv .0) (c .before .before .loop-test .taken) (pair-clear _ _ _ _ (c .before .pair-clash .ensures) (c .if1 .left)),
+      omega arith,
+    )
 
 returns-2 : tie.Need-returns-2 Inv-loop μ-loop
 unfolding pairBreach
@@ -34,14 +41,4 @@ returns-2 c = clear-done _ _ _ (c .before .loop .inv .0) (omega arith)
 pub pairs-of-spec : {M : Type 1} → statement M
 pairs-of-spec =
     tie.close
-    (tie.spec
-    Inv-loop
-    μ-loop
-    (λ c. search needs)
-    loop-holds
-    (λ c κs. search needs)
-    returns
-    (λ c. search needs)
-    (λ c. search needs)
-    loop-again
-    returns-2)
+    (tie.spec Inv-loop μ-loop (λ c. search needs) loop-holds (λ c κs. search needs) returns (λ c. search needs) (λ c. search needs) loop-again returns-2)

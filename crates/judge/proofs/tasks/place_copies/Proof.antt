@@ -1,100 +1,87 @@
 -- `judge::tasks::place_copies` meets its contract.
-use borrow.Author.Needs.{needs}
-use Prim.Native.Nat.{_-_}
+use Prim.Native.Nat.{_+_, _*_, _-_, _<_}
 use native.Mathlib.Omega.{arith}
-use Rattle.judge.proofs.TaskLaws.{Placing, placing-start, placing-more, placing-done, primary-fits, backup-fits, detect-fits}
+use Rattle.reader.specs.declared.job.Job.{Job}
+use Rattle.reader.specs.Entries.{emptyJob}
+use Rattle.copies.specs.Table.{copyCount, table}
+use Rattle.judge.specs.Tasks.{tasked}
+use Rattle.judge.proofs.TaskLaws.{Placing, placing-start, placing-more, placing-done, detect-fits}
+use borrow.Author.Needs.{needs}
 use Rattle.judge.proofs.tasks.place_copies.Statement.{statement}
 use Rattle.judge.proofs.tasks.place_copies.Tie as tie
 
 abbrev Inv-loop : tie.InvT-loop
-Inv-loop job plan copies₀ same₀ early₀ late₀ n j₀ copies same early late j = Placing job plan j copies same early late
+Inv-loop n node₀ start₀ finish₀ sets₀ tasks nodes plan same₀ early₀ late₀ j₀ node start finish sets same early late j =
+    (job : Job) → Placing (tasked job tasks nodes n) plan j (table node start finish sets) same early late
 
 abbrev μ-loop : tie.MeasureT-loop
-μ-loop job plan copies₀ same₀ early₀ late₀ n j₀ copies same early late j = n - j
+μ-loop n node₀ start₀ finish₀ sets₀ tasks nodes plan same₀ early₀ late₀ j₀ node start finish sets same early late j = n - j
+
+-- the turn, from where all rules are noted, and the room that it has
+abbrev turn : tie.After-noted3 Inv-loop μ-loop → tie.In-loop Inv-loop μ-loop
+turn c = c .before .before .before .before .before .before .before .before .before .before .before .before .before .before .before .before
+
+room : (c : tie.After-noted3 Inv-loop μ-loop) → 2 * turn c .before .loop .j + 1 < copyCount
+room c = omega (arith, turn c .loop-test .taken, turn c .before .before .pre .0 .few)
 
 loop-holds : tie.Need-loop-holds Inv-loop μ-loop
-loop-holds c = placing-start _ _ _ (c .empty .ensures)
+loop-holds c = λ job. placing-start _ _ _ (c .pre .1)
 
 copy-of-requires : tie.Need-copy-of-requires Inv-loop μ-loop
-copy-of-requires c κs = primary-fits _ _ (c .before .before .before .before .before .pre .0) (c .before .before .before .before .before .pre .1) _ (c .before .before .loop-test .taken)
+copy-of-requires c κs = c .before .before .before .before .pre .0 .primary _ (c .before .before .loop-test .taken)
 
 copy-of-requires-2 : tie.Need-copy-of-requires-2 Inv-loop μ-loop
-copy-of-requires-2 c κs = backup-fits _ _ (c .before .before .before .before .before .before .pre .0) (c .before .before .before .before .before .before .pre .1) _ (c .before .before .before .loop-test .taken)
-
-mul-node : tie.Need-mul-node Inv-loop μ-loop
-mul-node c = omega (arith, c .before .before .before .before .before .before .before .before .pre .1 .primary-node (c .before .before .before .before .before .before .loop .j) (c .before .before .before .before .before .loop-test .taken), c .before .before .before .before .before .before .before .before .pre .0 .nodes-most)
-
-element-copy-out-node : tie.Need-element-copy-out-node Inv-loop μ-loop
-element-copy-out-node c = omega (arith, c .before .before .before .before .before .before .before .before .pre .1 .primary-node (c .before .before .before .before .before .before .loop .j) (c .before .before .before .before .before .loop-test .taken), c .before .before .before .before .before .before .before .before .pre .0 .nodes-most)
+copy-of-requires-2 c κs = c .before .before .before .before .before .pre .0 .backup _ (c .before .before .before .loop-test .taken)
 
 add-noted : tie.Need-add-noted Inv-loop μ-loop
-add-noted c = omega (arith, detect-fits _ _ (c .before .before .before .before .before .before .before .before .before .before .before .before .before .before .pre .0) (c .before .before .before .before .before .before .before .before .before .before .before .before .before .before .pre .1) _ (c .before .before .before .before .before .before .before .before .before .before .before .loop-test .taken) _ (c .before .before .before .before .before .before .before .before .copy-of .ensures))
+add-noted c =
+    let at-copy-of = c .before .before .before .before .before .before .before .before in
+    let at-loop-test = at-copy-of .before .before .before in
+    let fits = at-loop-test .before .before .pre .0 in
+    omega (arith, detect-fits (tasked emptyJob _ _ _) _ fits _ (at-loop-test .loop-test .taken) _ (at-copy-of .copy-of .ensures .0))
 
 mul-k : tie.Need-mul-k Inv-loop μ-loop
-mul-k c = omega (arith, c .before .before .before .before .before .before .before .before .before .before .before .before .before .before .before .before .loop-test .taken, c .before .before .before .before .before .before .before .before .before .before .before .before .before .before .before .before .before .before .before .pre .0 .tasks-most)
+mul-k c = omega (arith, room c)
 
-mul-copies : tie.Need-mul-copies Inv-loop μ-loop
-mul-copies c = omega (arith, c .before .before .before .before .before .before .before .before .before .before .before .before .before .before .before .before .loop-test .taken, c .before .before .before .before .before .before .before .before .before .before .before .before .before .before .before .before .before .before .before .pre .0 .tasks-most)
+put-requires : tie.Need-put-requires Inv-loop μ-loop
+put-requires c κs =
+    let at-noted3 = c .before .before .before .before in
+    (turn at-noted3 .before .loop .inv emptyJob .tabled .whole, omega (arith, room at-noted3))
 
-element-write-copies : tie.Need-element-write-copies Inv-loop μ-loop
-element-write-copies c = omega (arith, c .before .before .before .before .before .before .before .before .before .before .before .before .before .before .before .before .loop-test .taken, c .before .before .before .before .before .before .before .before .before .before .before .before .before .before .before .before .before .before .before .pre .0 .tasks-most)
+add-put : tie.Need-add-put Inv-loop μ-loop
+add-put c = omega (arith, room (c .before .before .before .before .before .before .before .before .before))
 
-mul-copies-2 : tie.Need-mul-copies-2 Inv-loop μ-loop
-mul-copies-2 c = omega (arith, c .before .before .before .before .before .before .before .before .before .before .before .before .before .before .before .before .loop-test .taken, c .before .before .before .before .before .before .before .before .before .before .before .before .before .before .before .before .before .before .before .pre .0 .tasks-most)
-
-element-write-copies-2 : tie.Need-element-write-copies-2 Inv-loop μ-loop
-element-write-copies-2 c = omega (arith, c .before .before .before .before .before .before .before .before .before .before .before .before .before .before .before .before .loop-test .taken, c .before .before .before .before .before .before .before .before .before .before .before .before .before .before .before .before .before .before .before .pre .0 .tasks-most)
-
-mul-copies-3 : tie.Need-mul-copies-3 Inv-loop μ-loop
-mul-copies-3 c = omega (arith, c .before .before .before .before .before .before .before .before .before .before .before .before .before .before .before .before .loop-test .taken, c .before .before .before .before .before .before .before .before .before .before .before .before .before .before .before .before .before .before .before .pre .0 .tasks-most)
-
-element-write-copies-3 : tie.Need-element-write-copies-3 Inv-loop μ-loop
-element-write-copies-3 c = omega (arith, c .before .before .before .before .before .before .before .before .before .before .before .before .before .before .before .before .loop-test .taken, c .before .before .before .before .before .before .before .before .before .before .before .before .before .before .before .before .before .before .before .pre .0 .tasks-most)
-
-add-copies : tie.Need-add-copies Inv-loop μ-loop
-add-copies c = omega (arith, c .before .before .before .before .before .before .before .before .before .before .before .before .before .before .before .before .loop-test .taken, c .before .before .before .before .before .before .before .before .before .before .before .before .before .before .before .before .before .before .before .pre .0 .tasks-most)
-
-mul-copies-4 : tie.Need-mul-copies-4 Inv-loop μ-loop
-mul-copies-4 c = omega (arith, c .before .before .before .before .before .before .before .before .before .before .before .before .before .before .before .before .loop-test .taken, c .before .before .before .before .before .before .before .before .before .before .before .before .before .before .before .before .before .before .before .pre .0 .tasks-most)
-
-element-write-copies-4 : tie.Need-element-write-copies-4 Inv-loop μ-loop
-element-write-copies-4 c = omega (arith, c .before .before .before .before .before .before .before .before .before .before .before .before .before .before .before .before .loop-test .taken, c .before .before .before .before .before .before .before .before .before .before .before .before .before .before .before .before .before .before .before .pre .0 .tasks-most)
-
-add-copies-2 : tie.Need-add-copies-2 Inv-loop μ-loop
-add-copies-2 c = omega (arith, c .before .before .before .before .before .before .before .before .before .before .before .before .before .before .before .before .loop-test .taken, c .before .before .before .before .before .before .before .before .before .before .before .before .before .before .before .before .before .before .before .pre .0 .tasks-most)
-
-mul-copies-5 : tie.Need-mul-copies-5 Inv-loop μ-loop
-mul-copies-5 c = omega (arith, c .before .before .before .before .before .before .before .before .before .before .before .before .before .before .before .before .loop-test .taken, c .before .before .before .before .before .before .before .before .before .before .before .before .before .before .before .before .before .before .before .pre .0 .tasks-most)
-
-element-write-copies-5 : tie.Need-element-write-copies-5 Inv-loop μ-loop
-element-write-copies-5 c = omega (arith, c .before .before .before .before .before .before .before .before .before .before .before .before .before .before .before .before .loop-test .taken, c .before .before .before .before .before .before .before .before .before .before .before .before .before .before .before .before .before .before .before .pre .0 .tasks-most)
-
-add-copies-3 : tie.Need-add-copies-3 Inv-loop μ-loop
-add-copies-3 c = omega (arith, c .before .before .before .before .before .before .before .before .before .before .before .before .before .before .before .before .loop-test .taken, c .before .before .before .before .before .before .before .before .before .before .before .before .before .before .before .before .before .before .before .pre .0 .tasks-most)
-
-mul-copies-6 : tie.Need-mul-copies-6 Inv-loop μ-loop
-mul-copies-6 c = omega (arith, c .before .before .before .before .before .before .before .before .before .before .before .before .before .before .before .before .loop-test .taken, c .before .before .before .before .before .before .before .before .before .before .before .before .before .before .before .before .before .before .before .pre .0 .tasks-most)
-
-element-write-copies-6 : tie.Need-element-write-copies-6 Inv-loop μ-loop
-element-write-copies-6 c = omega (arith, c .before .before .before .before .before .before .before .before .before .before .before .before .before .before .before .before .loop-test .taken, c .before .before .before .before .before .before .before .before .before .before .before .before .before .before .before .before .before .before .before .pre .0 .tasks-most)
+put-requires-2 : tie.Need-put-requires-2 Inv-loop μ-loop
+put-requires-2 c κs =
+    let at-put = c .before .before .before .before in
+    (at-put .put .ensures .0, omega (arith, room (at-put .before .before .before .before .before)))
 
 add-j : tie.Need-add-j Inv-loop μ-loop
-add-j c = omega (arith, c .before .before .before .before .before .before .before .before .before .before .before .before .before .before .before .before .loop-test .taken, c .before .before .before .before .before .before .before .before .before .before .before .before .before .before .before .before .before .before .before .pre .0 .tasks-most)
+add-j c = omega (arith, room (c .before .before .before .before .before .before .before .before .before .before))
 
 loop-less : tie.Need-loop-less Inv-loop μ-loop
-loop-less c = omega (arith, c .before .before .before .before .before .before .before .before .before .before .before .before .before .before .before .before .loop-test .taken)
+loop-less c = omega (arith, turn (c .before .before .before .before .before .before .before .before .before .before) .loop-test .taken)
 
 loop-again : tie.Need-loop-again Inv-loop μ-loop
-loop-again c = placing-more _ _ (c .before .before .before .before .before .before .before .before .before .before .before .before .before .before .before .before .before .before .before .pre .0) _ _ _ _ _ (c .before .before .before .before .before .before .before .before .before .before .before .before .before .before .before .before .before .loop .inv) (c .before .before .before .before .before .before .before .before .before .before .before .before .before .before .before .before .loop-test .taken) _ _ (c .before .before .before .before .before .before .before .before .before .before .before .before .before .copy-of .ensures) (c .before .before .before .before .before .before .before .before .before .before .before .before .copy-of2 .ensures) _ _ _ (c .before .before .before .before .before .before .before .noted .ensures) (c .before .before .before .noted2 .ensures) (c .noted3 .ensures)
+loop-again c =
+    let at-put = c .before .before .before .before .before in
+    let at-noted3 = at-put .before .before .before .before .before in
+    let at-noted2 = at-noted3 .before .before .before in
+    let at-noted = at-noted2 .before .before .before .before in
+    let at-copy-of2 = at-noted .before .before .before .before .before in
+    let at-loop-test = at-copy-of2 .before .before .before .before in
+    λ job. placing-more _ _ (at-loop-test .before .before .pre .0 .few) _ _ _ _ _ (at-loop-test .before .loop .inv job) (at-loop-test .loop-test .taken) _ _
+    (at-copy-of2 .before .copy-of .ensures .0) (at-copy-of2 .copy-of2 .ensures .0) _ _ _ (at-noted .noted .ensures) (at-noted2 .noted2 .ensures)
+    (at-noted3 .noted3 .ensures) _ _ (at-put .put .ensures .1) (c .put2 .ensures .1) (c .put2 .ensures .0)
 
 returns : tie.Need-returns Inv-loop μ-loop
-returns c = placing-done _ _ (c .before .before .before .before .pre .0) _ _ _ _ _ (c .before .before .loop .inv) (omega arith) _ (c .task-answer .ensures)
+returns c =
+    let at-pre = c .before .before .before in
+    λ job. placing-done _ _ (at-pre .pre .0 .few) _ _ _ _ _ (c .before .before .loop .inv job) (omega arith) _ (c .task-answer .ensures)
 
 pub place-copies-spec : {M : Type 1} → statement M
 place-copies-spec =
     tie.close
-    (tie.spec Inv-loop μ-loop (λ c κs. search needs) (λ c. search needs) loop-holds (λ c. search needs) (λ c. search needs) (λ c. search needs)
-    (λ c. search needs) copy-of-requires copy-of-requires-2 (λ c. search needs) mul-node element-copy-out-node (λ c κs. search needs) add-noted
-    (λ c κs. search needs) (λ c κs. search needs) mul-k mul-copies element-write-copies mul-copies-2 element-write-copies-2 mul-copies-3
-    element-write-copies-3 add-copies mul-copies-4 element-write-copies-4 add-copies-2 mul-copies-5 element-write-copies-5 add-copies-3 mul-copies-6
-    element-write-copies-6 add-j loop-less loop-again (λ c κs. search needs) returns)
+    (tie.spec Inv-loop μ-loop loop-holds (λ c. search needs) (λ c. search needs) (λ c. search needs) (λ c. search needs) copy-of-requires copy-of-requires-2
+    (λ c. search needs) (λ c. search needs) (λ c. search needs) (λ c κs. search needs) add-noted (λ c κs. search needs) (λ c κs. search needs) mul-k
+    put-requires add-put put-requires-2 add-j loop-less loop-again (λ c κs. search needs) returns)

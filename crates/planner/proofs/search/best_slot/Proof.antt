@@ -15,32 +15,51 @@ Inv-loop node start finish sets before last search task ready nodes best₀ n₀
 abbrev μ-loop : tie.MeasureT-loop
 μ-loop node start finish sets before last search task ready nodes best₀ n₀ best n = nodes - n
 
-loop-holds : tie.Need-loop-holds Inv-loop μ-loop
-loop-holds c = first-best _ _ _ _ _ (c .nowhere .ensures)
-
 nowhere-requires : tie.Need-nowhere-requires Inv-loop μ-loop
 nowhere-requires c κs = c .before .before .pre .deadline
 
+loop-holds : tie.Need-loop-holds Inv-loop μ-loop
+loop-holds c = first-best _ _ _ _ _ (c .nowhere .ensures)
+
 element-copy-out-run : tie.Need-element-copy-out-run Inv-loop μ-loop
-element-copy-out-run c = omega (arith, c .loop-test .taken, c .before .before .before .before .before .pre .nodes-most)
+element-copy-out-run c =
+    let at-pre = c .before .before .before .before .before in
+    omega (arith, c .loop-test .taken, at-pre .pre .nodes-most)
 
 may-run-requires : tie.Need-may-run-requires Inv-loop μ-loop
-may-run-requires c κs = omega (arith, c .before .loop-test .taken, c .before .before .before .before .before .before .pre .nodes-most)
+may-run-requires c κs =
+    let at-pre = c .before .before .before .before .before .before in
+    omega (arith, c .before .loop-test .taken, at-pre .pre .nodes-most)
 
 element-copy-out-t27 : tie.Need-element-copy-out-t27 Inv-loop μ-loop
-element-copy-out-t27 c = omega (arith, c .before .before .before .loop-test .taken, c .before .before .before .before .before .before .before .before .pre .nodes-most)
+element-copy-out-t27 c =
+    let at-loop-test = c .before .before .before in
+    let at-pre = at-loop-test .before .before .before .before .before in
+    omega (arith, at-loop-test .loop-test .taken, at-pre .pre .nodes-most)
 
 first-free-requires : tie.Need-first-free-requires Inv-loop μ-loop
-first-free-requires c κs = asked _ _ _ _ (c .before .before .before .before .before .before .before .before .before .before .before .pre) _ _ (c .before .before .before .before .before .before .before .loop .inv) (c .before .before .before .before .before .before .loop-test .taken) (sym (c .before .before .before .before .may-run .ensures) ∙ c .before .before .before .if1 .taken) _ (start-at _ _ _ _ _ (c .before .ready-on .ensures) (c .later .ensures))
+first-free-requires c κs =
+    let at-if1 = c .before .before .before in
+    let at-loop-test = at-if1 .before .before .before in
+    let at-pre = at-loop-test .before .before .before .before .before in
+    asked _ _ _ _ (at-pre .pre) _ _ (at-loop-test .before .loop .inv) (at-loop-test .loop-test .taken)
+    (sym (at-if1 .before .may-run .ensures) ∙ at-if1 .if1 .taken) _ (start-at _ _ _ _ _ (c .before .ready-on .ensures) (c .later .ensures))
 
 sooner-requires : tie.Need-sooner-requires Inv-loop μ-loop
-sooner-requires c κs = (c .first-free .ensures .0, c .before .before .before .before .before .before .before .before .before .before .before .before .pre .run _ (c .before .before .before .before .before .before .before .loop-test .taken))
+sooner-requires c κs =
+    let at-loop-test = c .before .before .before .before .before .before .before in
+    let at-pre = at-loop-test .before .before .before .before .before in
+    (c .first-free .ensures .0, at-pre .pre .run _ (at-loop-test .loop-test .taken))
 
 loop-again : tie.Need-loop-again Inv-loop μ-loop
 loop-again c =
+    let at-loop-test = c .before .before .before in
+    let at-pre = at-loop-test .before .before .before .before .before in
     ⊎-elim
-    (λ w. best-next _ _ _ _ (c .before .before .before .before .before .before .before .before .pre) _ _ (c .before .before .before .before .loop .inv) (c .before .before .before .loop-test .taken) (sym (c .before .may-run .ensures) ∙ w .0 .taken) _ (start-at _ _ _ _ _ (w .2 .ensures) (w .3 .ensures)) _ _ (w .4 .ensures .1) (w .6 ∙ w .5 .ensures))
-    (λ w. best-passed _ _ _ _ (c .before .before .before .before .before .before .before .before .pre) _ _ (c .before .before .before .before .loop .inv) (c .before .before .before .loop-test .taken) _ (sym (c .before .may-run .ensures) ∙ w .0 .left) (w .1))
+    (λ w. best-next _ _ _ _ (at-pre .pre) _ _ (at-loop-test .before .loop .inv) (at-loop-test .loop-test .taken)
+    (sym (c .before .may-run .ensures) ∙ w .0 .taken) _ (start-at _ _ _ _ _ (w .2 .ensures) (w .3 .ensures)) _ _ (w .4 .ensures .1) (w .6 ∙ w .5 .ensures))
+    (λ w. best-passed _ _ _ _ (at-pre .pre) _ _ (at-loop-test .before .loop .inv) (at-loop-test .loop-test .taken) _
+    (sym (c .before .may-run .ensures) ∙ w .0 .left) (w .1))
     (c .if1 .came)
 
 returns : tie.Need-returns Inv-loop μ-loop
@@ -49,26 +68,6 @@ returns c = best-found _ _ _ _ _ _ _ (c .before .before .loop .inv) (omega arith
 pub best-slot-spec : {M : Type 1} → statement M
 best-slot-spec =
     tie.close
-    (tie.spec
-    Inv-loop
-    μ-loop
-    nowhere-requires
-    loop-holds
-    (λ c. search needs)
-    element-copy-out-run
-    (λ c. search needs)
-    may-run-requires
-    (λ c. search needs)
-    element-copy-out-t27
-    (λ c. search needs)
-    (λ c. search needs)
-    (λ c κs. search needs)
-    (λ c κs. search needs)
-    first-free-requires
-    (λ c. search needs)
-    sooner-requires
-    (λ c. search needs)
-    (λ c. search needs)
-    loop-again
-    (λ c κs. search needs)
-    returns)
+    (tie.spec Inv-loop μ-loop nowhere-requires loop-holds (λ c. search needs) element-copy-out-run (λ c. search needs) may-run-requires
+    (λ c. search needs) element-copy-out-t27 (λ c. search needs) (λ c. search needs) (λ c κs. search needs) (λ c κs. search needs)
+    first-free-requires (λ c. search needs) sooner-requires (λ c. search needs) (λ c. search needs) loop-again (λ c κs. search needs) returns)

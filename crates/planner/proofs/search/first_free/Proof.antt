@@ -21,13 +21,22 @@ clash-end-requires : tie.Need-clash-end-requires Inv-loop μ-loop
 clash-end-requires c κs = (c .before .before .pre .last, c .before .before .pre .chain)
 
 returns : tie.Need-returns Inv-loop μ-loop
-returns c = (c .before .before .before .loop .inv .small, leap-found _ _ _ _ (c .before .before .before .before .pre) _ _ (c .before .before .before .loop .inv) (c .before .clash-end .ensures) (c .if1 .taken) (omega arith))
+returns c =
+    let at-loop = c .before .before .before in (
+      at-loop .loop .inv .small,
+      leap-found _ _ _ _ (at-loop .before .pre) _ _ (at-loop .loop .inv) (c .before .clash-end .ensures)
+          (c .if1 .taken) (omega arith),
+    )
 
 loop-less : tie.Need-loop-less Inv-loop μ-loop
-loop-less c = omega (arith, leap-past _ _ _ _ (c .before .before .before .before .pre) _ _ (c .before .clash-end .ensures) (c .if1 .left))
+loop-less c =
+    let at-pre = c .before .before .before .before in
+    omega (arith, leap-past _ _ _ _ (at-pre .pre) _ _ (c .before .clash-end .ensures) (c .if1 .left))
 
 loop-again : tie.Need-loop-again Inv-loop μ-loop
-loop-again c = leap-more _ _ _ _ (c .before .before .before .before .pre) _ _ (c .before .clash-end .ensures) (c .if1 .left) (c .before .before .before .loop .inv)
+loop-again c =
+    let at-loop = c .before .before .before in
+    leap-more _ _ _ _ (at-loop .before .pre) _ _ (c .before .clash-end .ensures) (c .if1 .left) (at-loop .loop .inv)
 
 returns-2 : tie.Need-returns-2 Inv-loop μ-loop
 returns-2 c = (c .before .loop .inv .small, leap-nothing _ _ _ _ (c .before .before .pre) _ (c .before .loop .inv) (omega arith))
@@ -35,14 +44,4 @@ returns-2 c = (c .before .loop .inv .small, leap-nothing _ _ _ _ (c .before .bef
 pub first-free-spec : {M : Type 1} → statement M
 first-free-spec =
     tie.close
-    (tie.spec
-    Inv-loop
-    μ-loop
-    loop-holds
-    (λ c. search needs)
-    (λ c. search needs)
-    clash-end-requires
-    returns
-    loop-less
-    loop-again
-    returns-2)
+    (tie.spec Inv-loop μ-loop loop-holds (λ c. search needs) (λ c. search needs) clash-end-requires returns loop-less loop-again returns-2)

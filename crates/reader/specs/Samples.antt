@@ -1,0 +1,68 @@
+-- The jobs and plans of document 01's samples.
+use Prim.Native.Nat.{ℕ}
+use mathlib.Core.List.{List, [], _∷_}
+use lib.ListN.{length, getD, replicate}
+use Rattle.reader.specs.declared.job.Job.{Job}
+use Rattle.reader.specs.declared.job.Node.{Node}
+use Rattle.reader.specs.declared.job.Task.{Task}
+use Rattle.reader.specs.declared.job.Link.{Link}
+use Rattle.reader.specs.declared.plan.Place.{Place}
+use Rattle.reader.specs.declared.plan.Plan.{Plan}
+use Rattle.reader.specs.First.{fill}
+use Rattle.reader.specs.Limits.{maxNodes, maxTasks, maxLinks}
+use Rattle.reader.specs.Entries.{noNode, noLink, noPlace, blankTask}
+
+-- an array of length n that begins with these entries
+abbrev pub array : {A : Type 0} → ℕ → A → List A → List A
+array n blank l = fill (length l) (λ i. getD l i blank) (replicate n blank)
+
+-- a task of this deadline, with the run time on each of three nodes
+abbrev pub taskOf : ℕ → ℕ → Task
+taskOf deadline run = record { deadline = deadline; run = array maxNodes 0 (run ∷ run ∷ run ∷ []) }
+
+-- 3 nodes with detect 1, these tasks and these links
+abbrev pub jobOf : List Task → List Link → Job
+jobOf ts ls =
+    record {
+      version = 1;
+      «node_count» = 3;
+      nodes = array maxNodes noNode (let n : Node = record { detect = 1 } in n ∷ n ∷ n ∷ []);
+      «task_count» = length ts;
+      tasks = array maxTasks blankTask ts;
+      «link_count» = length ls;
+      links = array maxLinks noLink ls;
+    }
+
+abbrev pub linkOf : ℕ → ℕ → ℕ → Link
+linkOf from to delay = record { from = from; to = to; delay = delay }
+
+-- primary node, start; backup node, start
+abbrev pub at : ℕ → ℕ → ℕ → ℕ → Place
+at a b c d = record { «primary_node» = a; «primary_start» = b; «backup_node» = c; «backup_start» = d }
+
+abbrev pub planWith : List Place → Plan
+planWith l = record { version = 1; «task_count» = length l; places = array maxTasks noPlace l }
+
+-- task 0 run 4 on each node and deadline 30, task 1 run 3 and this deadline
+abbrev pub twoTasks : ℕ → List Link → Job
+twoTasks deadline = jobOf (taskOf 30 4 ∷ taskOf deadline 3 ∷ [])
+
+-- 'J: 3 nodes with detect 1; task 0 run 4 on each node, task 1 run 3, both deadlines 30; link 0 to 1, delay 2'
+abbrev pub J : Job
+J = twoTasks 30 (linkOf 0 1 2 ∷ [])
+
+abbrev pub JWithoutLink : Job
+JWithoutLink = twoTasks 30 []
+
+abbrev pub JWithDelay : ℕ → Job
+JWithDelay d = twoTasks 30 (linkOf 0 1 d ∷ [])
+
+abbrev pub JWithDeadline : ℕ → Job
+JWithDeadline d = twoTasks d (linkOf 0 1 2 ∷ [])
+
+abbrev pub _beside_ : Place → Place → Plan
+_beside_ x y = planWith (x ∷ y ∷ [])
+
+infix 10 _beside_
+abbrev pub plan1 : Plan
+plan1 = at 0 0 1 5 beside at 0 4 1 9

@@ -1,0 +1,100 @@
+-- The starred samples of document 01, as one table of questions and answers.
+use Prim.Native.Nat.{ℕ}
+use mathlib.Core.Bool.{Bool, true, false}
+use mathlib.Core.List.{List, [], _∷_}
+use Rattle.reader.specs.declared.job.Job.{Job}
+use Rattle.reader.specs.declared.plan.Plan.{Plan}
+use Rattle.reader.specs.declared.refusal.Answer.{Answer}
+use Rattle.reader.specs.declared.refusal.Answer.the-variants.{Done, Refused}
+use Rattle.reader.specs.Entries.{link}
+use Rattle.reader.specs.declared.refusal.Told.{Told}
+use Rattle.reader.specs.Refusals.{told, tell}
+use Rattle.reader.specs.Samples.{at, J, JWithoutLink, JWithDelay, JWithDeadline, _beside_, plan1}
+use Rattle.rules.specs.declared.Loss.{Loss}
+use Rattle.rules.specs.declared.Loss.the-variants.{NoLoss, Lost}
+use Rattle.rules.specs.Rules.{rows, strong}
+use Rattle.rules.specs.Judge.{judge}
+use Rattle.rules.specs.Replay.{stateNumber, replay, finishOf}
+use Rattle.rules.specs.Attempts.{Attempt, refused, placed}
+use Rattle.rules.specs.Planner.{planner}
+
+-- what a sample asks; isStrong: of a link, by its number
+pub data Question : Type 0 where
+  plans : Job → Question
+  judges : Job → Plan → Question
+  replays : Job → Plan → Loss → Question
+  isStrong : Job → Plan → ℕ → Question
+
+-- 'Per task replay writes three numbers'
+pub record Written : Type 0 where
+  pub primary : ℕ
+  pub backup : ℕ
+  pub finish : ℕ
+
+abbrev pub wrote : ℕ → ℕ → ℕ → Written
+wrote p b f = record { primary = p; backup = b; finish = f }
+
+-- what is answered
+pub data Outcome : Type 0 where
+  planned : Plan → Outcome
+  passed : Outcome
+  declined : Told → Outcome
+  ran : Written → Written → Outcome
+  is : Bool → Outcome
+
+abbrev pub ofAttempt : Attempt Plan → Outcome
+ofAttempt (placed plan) = planned plan
+ofAttempt (refused r) = declined (tell r)
+
+abbrev pub ofAnswer : Answer → Outcome
+ofAnswer Done = passed
+ofAnswer (Refused r) = declined (tell r)
+
+abbrev pub written : Job → Plan → Loss → ℕ → Written
+written job plan loss j =
+    let x = replay job plan loss j in
+    wrote (stateNumber (x .primary)) (stateNumber (x .backup)) (finishOf (rows job plan j) x)
+
+abbrev pub outcome : Question → Outcome
+outcome (plans job) = ofAttempt (planner job)
+outcome (judges job plan) = ofAnswer (judge job plan)
+outcome (replays job plan loss) = ran (written job plan loss 0) (written job plan loss 1)
+outcome (isStrong job plan k) =
+    let l = link job k in
+    is (strong job l (rows job plan (l .from)) (rows job plan (l .to) .primary))
+
+-- a sample's number, what it asks, and what it answers
+pub record Sample : Type 0 where
+  pub number : ℕ
+  pub question : Question
+  pub answer : Outcome
+
+abbrev sample : ℕ → Question → Outcome → Sample
+sample n q a = record { number = n; question = q; answer = a }
+
+abbrev pub table : List Sample
+table =
+    sample 1 (plans J) (planned (at 0 0 1 5 beside at 0 4 1 9))
+    ∷ sample 2 (replays J plan1 (Lost 0 3)) (ran (wrote 1 2 9) (wrote 0 2 12))
+    ∷ sample 3 (replays J plan1 (Lost 0 4)) (ran (wrote 2 0 4) (wrote 0 2 12))
+    ∷ sample 3 (replays J plan1 (Lost 0 5)) (ran (wrote 2 0 4) (wrote 1 2 12))
+    ∷ sample 3 (replays J plan1 NoLoss) (ran (wrote 2 0 4) (wrote 2 0 7))
+    ∷ sample 4 (judges J (at 0 0 1 5 beside at 2 10 0 15)) (declined (told 13 1 1))
+    ∷ sample 4 (isStrong J (at 0 0 1 5 beside at 2 10 0 15) 0) (is false)
+    ∷ sample 5 (isStrong J (at 0 0 1 5 beside at 2 11 0 15) 0) (is true)
+    ∷ sample 5 (judges J (at 0 0 1 5 beside at 2 11 0 15)) passed
+    ∷ sample 6 (judges JWithoutLink (at 0 0 2 5 beside at 1 0 2 4)) passed
+    ∷ sample 7 (judges JWithoutLink (at 0 0 2 8 beside at 0 4 2 8)) (declined (told 14 0 1))
+    ∷ sample 7 (judges JWithoutLink (at 0 0 2 5 beside at 0 4 2 9)) passed
+    ∷ sample 8 (judges (JWithDelay 6) (at 0 0 1 5 beside at 1 10 0 14)) (declined (told 12 0 1))
+    ∷ sample 9 (plans (JWithDeadline 12)) (planned plan1)
+    ∷ sample 9 (plans (JWithDeadline 11)) (declined (told 16 1 1))
+    ∷ []
+
+abbrev pub asked : List Sample → List Outcome
+asked [] = []
+asked (s ∷ l) = outcome (s .question) ∷ asked l
+
+abbrev pub answers : List Sample → List Outcome
+answers [] = []
+answers (s ∷ l) = s .answer ∷ answers l

@@ -1,0 +1,89 @@
+-- 'the longest job has 10,576 bytes': no file that is accepted has more (reader, `job-most`), and one has as many.
+use Prim.Native.Nat.{ℕ, zero, suc, _+_, _/_, _%_, _<_}
+use native.Mathlib.Omega.{arith}
+use mathlib.Core.Path.{_≡_, refl, sym}
+use mathlib.Core.Bool.{true}
+use mathlib.Core.List.{List, [], _∷_}
+use mathlib.Core.Option.{none}
+use lib.Dec.{ltb}
+use lib.ListN.{length, replicate, getD-replicate}
+use borrow.Author.Tests.{ltb-false, lt-ltb, eq-eqb}
+use Rattle.reader.specs.declared.job.Task.{Task}
+use Rattle.reader.specs.declared.job.Link.{Link}
+use Rattle.reader.specs.declared.job.Job.{Job}
+use Rattle.reader.specs.First.{fill}
+use Rattle.reader.specs.Limits.{maxNodes, maxTasks, maxLinks, maxJobLength}
+use Rattle.reader.specs.Entries.{noNode, noTask, noLink, task, link}
+use Rattle.reader.specs.Sound.{below, Sound}
+use Rattle.reader.specs.Number.{Bytes}
+use Rattle.reader.specs.JobFile.{jobFault}
+use Rattle.reader.proofs.TestLaws.{split, or-l, or-r, and-i}
+use Rattle.reader.proofs.FillLaws.{filled-at}
+use Rattle.writer.specs.Write.{pack, jobBytes}
+use Rattle.writer.proofs.SoundReads.{sound-job-reads, sound-job-length}
+
+pack-bytes : (vs : List ℕ) → Bytes (pack vs)
+unfolding Bytes pack
+pack-bytes [] k = omega arith
+pack-bytes (v ∷ vs) zero = omega arith
+pack-bytes (v ∷ vs) (suc zero) = omega arith
+pack-bytes (v ∷ vs) (suc (suc zero)) = omega arith
+pack-bytes (v ∷ vs) (suc (suc (suc zero))) = omega arith
+pack-bytes (v ∷ vs) (suc (suc (suc (suc k)))) = pack-bytes vs k
+
+-- 16 nodes, 64 tasks and 512 links: 16 from each of the first 32 tasks
+abbrev longTask : Task
+longTask = record { deadline = 1; run = replicate maxNodes 0 }
+
+abbrev longLink : ℕ → Link
+longLink k = record { from = k / 16; to = 32 + k % 16; delay = 0 }
+
+unfoldable longJob : Job
+longJob = record {
+  version = 1;
+  «node_count» = maxNodes;
+  nodes = replicate maxNodes noNode;
+  «task_count» = maxTasks;
+  tasks = replicate maxTasks longTask;
+  «link_count» = maxLinks;
+  links = fill maxLinks longLink (replicate maxLinks noLink);
+}
+
+task-is : (j : ℕ) → j < maxTasks → task longJob j ≡ longTask
+unfolding longJob
+task-is j p = getD-replicate maxTasks j longTask noTask p
+
+link-is : (k : ℕ) → k < maxLinks → link longJob k ≡ longLink k
+unfolding longJob
+link-is k p = filled-at longLink maxLinks noLink _ maxLinks k noLink refl p (omega arith)
+
+rises : (k : ℕ) → below (longLink k) (longLink (suc k)) ≡ true
+unfolding below
+rises k =
+    split (ltb (k / 16) (suc k / 16)) (λ e. or-l _ _ e) (λ e.
+    let same : k / 16 ≡ suc k / 16 = omega (arith, ltb-false (k / 16) (suc k / 16) e) in
+    or-r _ _ (and-i _ _ (eq-eqb (k / 16) (suc k / 16) same) (lt-ltb (32 + k % 16) (32 + suc k % 16) (omega arith))))
+
+long-sound : Sound longJob
+unfolding longJob
+long-sound = record {
+  version = refl;
+  nodes-least = omega arith;
+  nodes-most = omega arith;
+  detect-most = λ n p. rw (getD-replicate maxNodes n noNode noNode p) (omega arith);
+  tasks-least = omega arith;
+  tasks-most = omega arith;
+  deadline-least = λ j p. rw (task-is j p) (omega arith);
+  deadline-most = λ j p. rw (task-is j p) (omega arith);
+  run-most = λ j n p q. rw (task-is j p) (omega (arith, getD-replicate {A = ℕ} maxNodes n 0 0 q));
+  links-most = omega arith;
+  rise = λ k p. rw (link-is k p) (omega arith);
+  into = λ k p. rw (link-is k p) (omega arith);
+  delay-most = λ k p. rw (link-is k p) (omega arith);
+  order = λ k p. rw (link-is k (omega arith), link-is (suc k) p) (rises k);
+}
+
+-- some file of bytes is accepted and has this length
+pub longest-job : (s : List ℕ) × Bytes s × (jobFault s ≡ none) × (length s ≡ maxJobLength)
+unfolding jobBytes longJob
+longest-job = (jobBytes longJob, pack-bytes _, sound-job-reads longJob long-sound, sym (sound-job-length longJob long-sound))

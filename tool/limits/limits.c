@@ -1,0 +1,406 @@
+/* Holds the header's limits and lengths to the library's, through the calls: each
+ * limit and one past it, each length and a byte less and more. */
+#include "seqopchi.h"
+
+#include <stdio.h>
+#include <stdlib.h>
+#include <string.h>
+
+#define ROOM 65536 /* for any file or output here; no limit of the library */
+#define MARK 0xa5  /* what out holds before a call */
+#define COUNT_OF(array) (sizeof (array) / sizeof (array)[0])
+
+enum call { JUDGE, PLAN, REPLAY, LOSS, CALLS };
+
+static const char *const call_names[CALLS] = {
+    "seqopchi_judge", "seqopchi_plan", "seqopchi_replay", "seqopchi_replay_loss"
+};
+
+/* The numbers of a job and of a plan. */
+enum field {
+    VERSION, NODES, DETECT, TASKS, DEADLINE, RUN, LINKS, FROM, TO, DELAY,
+    PLAN_VERSION, ROWS, PRIMARY, PRIMARY_START, BACKUP, BACKUP_START, FIELDS
+};
+
+static const char *const field_names[FIELDS] = {
+    "version", "nodes", "detect time", "tasks", "deadline", "run time", "links",
+    "from", "to", "delay", "version of the plan", "rows", "primary's node",
+    "primary's start", "backup's node", "backup's start"
+};
+
+/* Well inside all limits, with tasks enough for the most links. The rows of the plan
+ * are alike and their backups early, so that a rule refuses a plan that reads well. */
+static const uint32_t usual[FIELDS] = {
+    [VERSION] = SEQOPCHI_FILE_VERSION, [NODES] = 3, [DETECT] = 1, [TASKS] = 40,
+    [DEADLINE] = 9999, [RUN] = 4, [LINKS] = 2, [DELAY] = 2,
+    [PLAN_VERSION] = SEQOPCHI_FILE_VERSION, [BACKUP] = 1
+};
+
+struct file {
+    size_t length;
+    size_t at[FIELDS]; /* where the last number of each kind stands */
+    uint8_t data[ROOM];
+};
+
+static uint32_t numbers[FIELDS]; /* what the files are made of */
+static struct file job, plan;
+static uint8_t out[ROOM];
+static uint32_t lost_node, lost_moment;
+static char subject[120]; /* what is checked, for the message */
+static unsigned long calls;
+
+static void about(const char *name, const char *what, unsigned long number)
+{
+    snprintf(subject, sizeof subject, "%s, %s %lu", name, what, number);
+}
+
+static void check(int fine, const char *fault)
+{
+    if (fine)
+        return;
+    fprintf(stderr, "limits: %s: %s\n", subject, fault);
+    exit(1);
+}
+
+static void set_number(struct file *f, enum field field, uint32_t number)
+{
+    for (int i = 0; i < 4; i++)
+        f->data[f->at[field] + i] = (uint8_t)(number >> 8 * i);
+}
+
+static void put(struct file *f, enum field field, uint32_t number)
+{
+    check(f->length + 4 < ROOM, "the file is too long for this program");
+    f->at[field] = f->length;
+    f->length += 4;
+    set_number(f, field, number);
+}
+
+/* Fewer links than asked for where there are fewer pairs of tasks. */
+static void write_links(void)
+{
+    uint32_t tasks = numbers[TASKS], pairs = tasks * (tasks - 1) / 2, left;
+
+    if (numbers[LINKS] > pairs)
+        numbers[LINKS] = pairs;
+    left = numbers[LINKS];
+    put(&job, LINKS, left);
+    for (uint32_t from = 0; from < tasks; from++)
+        for (uint32_t to = from + 1; to < tasks && left > 0; to++, left--) {
+            put(&job, FROM, from);
+            put(&job, TO, to);
+            put(&job, DELAY, numbers[DELAY]);
+        }
+}
+
+static void write_job(void)
+{
+    job.length = 0;
+    put(&job, VERSION, numbers[VERSION]);
+    put(&job, NODES, numbers[NODES]);
+    for (uint32_t node = 0; node < numbers[NODES]; node++)
+        put(&job, DETECT, numbers[DETECT]);
+    put(&job, TASKS, numbers[TASKS]);
+    for (uint32_t task = 0; task < numbers[TASKS]; task++) {
+        put(&job, DEADLINE, numbers[DEADLINE]);
+        for (uint32_t node = 0; node < numbers[NODES]; node++)
+            put(&job, RUN, numbers[RUN]);
+    }
+    write_links();
+}
+
+static void write_plan(void)
+{
+    plan.length = 0;
+    put(&plan, PLAN_VERSION, numbers[PLAN_VERSION]);
+    put(&plan, ROWS, numbers[TASKS]);
+    for (uint32_t task = 0; task < numbers[TASKS]; task++)
+        for (int field = PRIMARY; field <= BACKUP_START; field++)
+            put(&plan, field, numbers[field]);
+}
+
+/* The usual files with one number changed. */
+static void write_files(enum field field, uint32_t number)
+{
+    memcpy(numbers, usual, sizeof numbers);
+    numbers[field] = number;
+    write_job();
+    write_plan();
+}
+
+static uint64_t result_of(enum call call, size_t out_len)
+{
+    calls++;
+    memset(out, MARK, sizeof out);
+    switch (call) {
+    case JUDGE:
+        return seqopchi_judge(job.data, job.length, plan.data, plan.length);
+    case PLAN:
+        return seqopchi_plan(job.data, job.length, out, out_len);
+    case REPLAY:
+        return seqopchi_replay(job.data, job.length, plan.data, plan.length,
+                               out, out_len);
+    default:
+        return seqopchi_replay_loss(job.data, job.length, plan.data, plan.length,
+                                    lost_node, lost_moment, out, out_len);
+    }
+}
+
+static void check_result(int fine, enum call call, uint64_t r, const char *wanted)
+{
+    char fault[160];
+    unsigned number = seqopchi_number(r);
+
+    snprintf(fault, sizeof fault, "%s gives %u (%s) %lu / %lu, not %s",
+             call_names[call], number, seqopchi_word(number),
+             (unsigned long)seqopchi_first(r), (unsigned long)seqopchi_second(r), wanted);
+    check(fine, fault);
+}
+
+static void expect(enum call call, size_t out_len, unsigned number,
+                   size_t first, size_t second)
+{
+    uint64_t r = result_of(call, out_len);
+    int same = seqopchi_number(r) == number && seqopchi_first(r) == first
+        && seqopchi_second(r) == second;
+    char wanted[80];
+
+    snprintf(wanted, sizeof wanted, "%u (%s) %lu / %lu", number, seqopchi_word(number),
+             (unsigned long)first, (unsigned long)second);
+    check_result(same, call, r, wanted);
+}
+
+/* Both files read well: the judge gets to the rules, the others lack room. */
+static void expect_read(void)
+{
+    for (int call = JUDGE; call < CALLS; call++) {
+        uint64_t r = result_of(call, 0);
+        unsigned number = seqopchi_number(r);
+
+        if (call == JUDGE)
+            check_result(number >= SEQOPCHI_REFUSED_SAME_NODE, call, r, "a rule");
+        else
+            check_result(number == SEQOPCHI_REFUSED_SHORT_BUFFER, call, r, "short buffer");
+    }
+}
+
+/* Every call finds this fault in the file; the planner reads no plan. */
+static void expect_fault(const struct file *f, unsigned number, size_t offset)
+{
+    for (int call = JUDGE; call < CALLS; call++)
+        if (f == &job || call != PLAN)
+            expect(call, 0, number, offset, 0);
+}
+
+struct limit {
+    const char *macro;
+    enum field field;
+    uint32_t limit, past;
+    unsigned refusal;
+};
+
+#define AT_LEAST(macro, field, refusal) \
+    { #macro, field, macro, macro - 1, SEQOPCHI_REFUSED_##refusal }
+#define AT_MOST(macro, field, refusal) \
+    { #macro, field, macro, macro + 1, SEQOPCHI_REFUSED_##refusal }
+
+static const struct limit limits[] = {
+    AT_LEAST(SEQOPCHI_FILE_VERSION, VERSION, VERSION),
+    AT_MOST(SEQOPCHI_FILE_VERSION, VERSION, VERSION),
+    AT_LEAST(SEQOPCHI_FILE_VERSION, PLAN_VERSION, VERSION),
+    AT_MOST(SEQOPCHI_FILE_VERSION, PLAN_VERSION, VERSION),
+    AT_LEAST(SEQOPCHI_MIN_NODES, NODES, COUNT),
+    AT_MOST(SEQOPCHI_MAX_NODES, NODES, COUNT),
+    AT_LEAST(SEQOPCHI_MIN_TASKS, TASKS, COUNT),
+    AT_MOST(SEQOPCHI_MAX_TASKS, TASKS, COUNT),
+    AT_MOST(SEQOPCHI_MAX_LINKS, LINKS, COUNT),
+    AT_MOST(SEQOPCHI_MAX_DETECT, DETECT, VALUE),
+    AT_LEAST(SEQOPCHI_MIN_DEADLINE, DEADLINE, VALUE),
+    AT_MOST(SEQOPCHI_MAX_TIME, DEADLINE, VALUE),
+    AT_MOST(SEQOPCHI_MAX_TIME, RUN, VALUE),
+    AT_MOST(SEQOPCHI_MAX_TIME, DELAY, VALUE),
+    AT_MOST(SEQOPCHI_MAX_TIME, PRIMARY_START, VALUE),
+    AT_MOST(SEQOPCHI_MAX_TIME, BACKUP_START, VALUE)
+};
+
+/* All numbers of the kind at the limit; then the last of them one past it. */
+static void check_limit(const struct limit *l)
+{
+    struct file *f = l->field < PLAN_VERSION ? &job : &plan;
+
+    about(l->macro, field_names[l->field], l->limit);
+    write_files(l->field, l->limit);
+    check(numbers[l->field] == l->limit, "the usual job has too few tasks for that");
+    expect_read();
+    about(l->macro, field_names[l->field], l->past);
+    set_number(f, l->field, l->past);
+    expect_fault(f, l->refusal, f->at[l->field]);
+}
+
+/* The file has that length and reads; a byte less is short, a byte more a tail. */
+static void check_file(const char *macro, struct file *f, size_t length)
+{
+    about(macro, "length", length);
+    check(f->length == length, "the file of that shape has another length");
+    expect_read();
+    f->length = length - 1;
+    expect_fault(f, SEQOPCHI_REFUSED_SHORT, length - 4);
+    f->length = length + 1;
+    expect_fault(f, SEQOPCHI_REFUSED_TAIL, length);
+    f->length = length;
+}
+
+/* With a byte less there is too little room; with that length all of it is written. */
+static void check_output(const char *macro, enum call call, size_t length)
+{
+    about(macro, "length", length);
+    expect(call, length - 1, SEQOPCHI_REFUSED_SHORT_BUFFER, length, 0);
+    check(out[0] == MARK, "a refusal writes");
+    expect(call, length, SEQOPCHI_DONE, 0, 0);
+    check(out[length - 1] != MARK, "the last byte is not written");
+    check(out[length] == MARK, "a byte behind the output is written");
+}
+
+/* Each corner of the shapes; the greatest job comes last. */
+static void check_job_lengths(void)
+{
+    static const uint32_t nodes[] = { SEQOPCHI_MIN_NODES, SEQOPCHI_MAX_NODES };
+    static const uint32_t tasks[] = { SEQOPCHI_MIN_TASKS, SEQOPCHI_MAX_TASKS };
+    static const uint32_t links[] = { 0, 1, SEQOPCHI_MAX_LINKS };
+
+    for (int i = 0; i < 12; i++) {
+        write_files(TASKS, tasks[i / 3 % 2]);
+        numbers[NODES] = nodes[i / 6];
+        numbers[LINKS] = links[i % 3];
+        write_job();
+        check_file("SEQOPCHI_JOB_BYTES", &job,
+                   SEQOPCHI_JOB_BYTES(numbers[NODES], numbers[TASKS], numbers[LINKS]));
+    }
+    check_file("SEQOPCHI_MAX_JOB_BYTES", &job, SEQOPCHI_MAX_JOB_BYTES);
+}
+
+/* A plan of so many tasks as a file, as the planner's output, and replayed. */
+static void check_plan_lengths(uint32_t tasks, const char *plan_macro, size_t plan_bytes,
+                               const char *replay_macro, size_t replay_bytes)
+{
+    write_files(TASKS, tasks);
+    check_file(plan_macro, &plan, plan_bytes);
+    check_output(plan_macro, PLAN, plan_bytes);
+    memcpy(plan.data, out, plan_bytes);
+    expect(JUDGE, 0, SEQOPCHI_DONE, 0, 0);
+    check_output(replay_macro, REPLAY, replay_bytes);
+    check_output(replay_macro, LOSS, replay_bytes);
+}
+
+static void check_lengths(void)
+{
+    check_job_lengths();
+    for (uint32_t tasks = SEQOPCHI_MIN_TASKS; tasks <= SEQOPCHI_MAX_TASKS; tasks++)
+        check_plan_lengths(tasks, "SEQOPCHI_PLAN_BYTES", SEQOPCHI_PLAN_BYTES(tasks),
+                           "SEQOPCHI_REPLAY_BYTES", SEQOPCHI_REPLAY_BYTES(tasks));
+    check_plan_lengths(SEQOPCHI_MAX_TASKS,
+                       "SEQOPCHI_MAX_PLAN_BYTES", SEQOPCHI_MAX_PLAN_BYTES,
+                       "SEQOPCHI_MAX_REPLAY_BYTES", SEQOPCHI_MAX_REPLAY_BYTES);
+}
+
+static const struct { unsigned number; const char *word; } words[] = {
+    { SEQOPCHI_DONE, "done" },
+    { SEQOPCHI_REFUSED_SHORT, "short" },
+    { SEQOPCHI_REFUSED_VERSION, "version" },
+    { SEQOPCHI_REFUSED_COUNT, "count" },
+    { SEQOPCHI_REFUSED_VALUE, "value" },
+    { SEQOPCHI_REFUSED_LINK_ORDER, "link order" },
+    { SEQOPCHI_REFUSED_TAIL, "tail" },
+    { SEQOPCHI_REFUSED_UNABLE, "unable" },
+    { SEQOPCHI_REFUSED_SAME_NODE, "same node" },
+    { SEQOPCHI_REFUSED_EARLY, "early" },
+    { SEQOPCHI_REFUSED_LATE, "late" },
+    { SEQOPCHI_REFUSED_PRIMARY_UNFED, "primary unfed" },
+    { SEQOPCHI_REFUSED_BACKUP_UNFED, "backup unfed" },
+    { SEQOPCHI_REFUSED_COMMON_LOSS, "common loss" },
+    { SEQOPCHI_REFUSED_OVERLAP, "overlap" },
+    { SEQOPCHI_REFUSED_NO_PRIMARY, "no primary" },
+    { SEQOPCHI_REFUSED_NO_BACKUP, "no backup" },
+    { SEQOPCHI_REFUSED_SHORT_BUFFER, "short buffer" },
+    { SEQOPCHI_REFUSED_NO_SUCH_NODE, "no such node" }
+};
+
+static void check_words(void)
+{
+    for (unsigned i = 0; i < COUNT_OF(words); i++) {
+        about("seqopchi_word", words[i].word, i);
+        check(words[i].number == i, "the enum has another number");
+        check(strcmp(seqopchi_word(i), words[i].word) == 0, "another word");
+    }
+    about("seqopchi_word", "unknown", COUNT_OF(words));
+    check(strcmp(seqopchi_word(COUNT_OF(words)), "unknown") == 0, "another word");
+}
+
+/* Plans of two linked tasks: node and start of primary and backup, one rule broken. */
+static const struct { unsigned number, first, second; uint32_t rows[8]; } rules[] = {
+    { SEQOPCHI_DONE, 0, 0, { 0, 0, 1, 5, 0, 4, 1, 9 } },
+    { SEQOPCHI_REFUSED_SAME_NODE, 0, 0, { 0, 0, 0, 5, 0, 4, 1, 9 } },
+    { SEQOPCHI_REFUSED_EARLY, 0, 0, { 0, 0, 1, 4, 0, 4, 1, 9 } },
+    { SEQOPCHI_REFUSED_LATE, 1, 1, { 0, 0, 1, 5, 0, 4, 1, 9999 } },
+    { SEQOPCHI_REFUSED_PRIMARY_UNFED, 0, 1, { 0, 0, 1, 5, 0, 3, 1, 9 } },
+    { SEQOPCHI_REFUSED_BACKUP_UNFED, 0, 1, { 0, 0, 1, 5, 0, 4, 2, 9 } },
+    { SEQOPCHI_REFUSED_COMMON_LOSS, 1, 1, { 0, 0, 1, 5, 2, 6, 0, 11 } },
+    { SEQOPCHI_REFUSED_OVERLAP, 0, 1, { 0, 0, 1, 5, 1, 6, 2, 11 } }
+};
+
+static void check_rules(void)
+{
+    for (size_t i = 0; i < COUNT_OF(rules); i++) {
+        about("enum seqopchi_refusal", "rule", rules[i].number);
+        write_files(TASKS, 2);
+        plan.length = SEQOPCHI_PLAN_BYTES(0);
+        for (int k = 0; k < 8; k++)
+            put(&plan, PRIMARY + k % 4, rules[i].rows[k]);
+        expect(JUDGE, 0, rules[i].number, rules[i].first, rules[i].second);
+    }
+}
+
+/* The refusals that no limit, length or rule gives. */
+static void check_other_refusals(void)
+{
+    about("enum seqopchi_refusal", "one of", COUNT_OF(words));
+    write_files(RUN, 0);
+    expect_fault(&plan, SEQOPCHI_REFUSED_UNABLE, SEQOPCHI_PLAN_BYTES(0));
+    expect(PLAN, ROOM, SEQOPCHI_REFUSED_NO_PRIMARY, 0, 0);
+    write_files(DEADLINE, usual[RUN]);
+    expect(PLAN, ROOM, SEQOPCHI_REFUSED_NO_BACKUP, 0, 0);
+    write_files(LINKS, 2);
+    set_number(&job, TO, 1);
+    expect_fault(&job, SEQOPCHI_REFUSED_LINK_ORDER, job.at[FROM]);
+    write_files(NODES, 3);
+    lost_node = 3;
+    expect(LOSS, 0, SEQOPCHI_REFUSED_NO_SUCH_NODE, lost_node, 0);
+}
+
+/* One task, its primary on node 0 from 0 to 4, which is lost. */
+static void check_outcomes(uint32_t moment, uint8_t primary, uint8_t backup)
+{
+    about("enum seqopchi_outcome", "moment", moment);
+    write_files(TASKS, 1);
+    set_number(&plan, BACKUP_START, 5);
+    lost_node = 0;
+    lost_moment = moment;
+    expect(LOSS, ROOM, SEQOPCHI_DONE, 0, 0);
+    check(out[0] == primary, "another outcome of the primary");
+    check(out[4] == backup, "another outcome of the backup");
+}
+
+int main(void)
+{
+    for (size_t i = 0; i < COUNT_OF(limits); i++)
+        check_limit(&limits[i]);
+    check_lengths();
+    check_words();
+    check_rules();
+    check_other_refusals();
+    check_outcomes(0, SEQOPCHI_NOT_STARTED, SEQOPCHI_FINISHED);
+    check_outcomes(3, SEQOPCHI_CUT, SEQOPCHI_FINISHED);
+    check_outcomes(4, SEQOPCHI_FINISHED, SEQOPCHI_NOT_STARTED);
+    printf("limits: the header's limits and lengths are the library's (%lu calls)\n", calls);
+    return 0;
+}
