@@ -24,7 +24,7 @@ use Rattle.copies.specs.declared.table.Copies.{Copies}
 use Rattle.copies.specs.Sets.{has, meets, everyNode}
 use Rattle.copies.specs.Table.{nodeAt, entry, setAt, rowOf, Held}
 use Rattle.copies.specs.Chain.{lastOf, Chain}
-use Rattle.copies.specs.Clash.{clashes, free, untilOf, lateOf, boundOf, latest}
+use Rattle.copies.specs.Clash.{clashes, free, Hits, untilOf, lateOf, boundOf, latest}
 use Rattle.reader.proofs.TestLaws.{and-yes, and-no}
 use Rattle.copies.proofs.ChainLaws.{last-most, last-gap, chain-before, chain-down, chain-next}
 use Rattle.copies.proofs.SetLaws.{meets-i, meets-any, has-every}
@@ -100,7 +100,8 @@ module _ (m : ℕ) (c : Copy) (start finish z : ℕ) where
 -- for the loop along a chain: what is left of it
 module _ (cs : Copies) (m : ℕ) (c : Copy) where
   -- entries on other nodes do not clash
-  latest-rest : (last k : ℕ) → last ≤ k → ((i : ℕ) → last ≤ i → i < k → entry cs i .node ≡ c .node → ⊥) → latest cs m c last ≡ latest cs m c k
+  latest-rest : (last k : ℕ) → last ≤ k → ((i : ℕ) → last ≤ i → i < k → entry cs i .node ≡ c .node → ⊥)
+      → latest cs m c last ≡ latest cs m c k
   unfolding latest
   latest-rest last zero p h = let e : last ≡ 0 = omega arith in ap (latest cs m c) e
   latest-rest last (suc k) p h = elim (decLt k last) [
@@ -147,8 +148,7 @@ module _ (cs : Copies) (m : ℕ) (c : Copy) where
 
     -- one that does not clash leaves it
     pub latest-miss : (k left at : ℕ) → left ≡ suc k → Passed before last left at
-        → ((n : ℕ) → n ≡ c .node → false ≡ clashes m c (record { node = n; start = getD (cs .start) k 0; finish = getD (cs .finish) k 0 }) (setAt cs k))
-        → Passed before last (getD before k 0) at
+        → Hits m c (getD (cs .start) k 0) (getD (cs .finish) k 0) (setAt cs k) false → Passed before last (getD before k 0) at
     latest-miss k left at e h g =
         latest-step k left at at e h λ n. omega (arith, bound-is m c _ _ _ _ false 0 (g _ n) refl)
 
@@ -179,7 +179,8 @@ module _ (cs : Copies) (m : ℕ) (c : Copy) where
       (λ e. below-suc k n p (λ q. latest-none n (omega (arith, h)) k q) (λ q. rw q e))
 
   -- else it is the finish of one that does
-  pub latest-some {ℓ} : {C : Type ℓ} (n : ℕ) → 0 < latest cs m c n → ((k : ℕ) → k < n → clashesAt k ≡ true → entry cs k .finish ≡ latest cs m c n → C) → C
+  pub latest-some {ℓ} : {C : Type ℓ} (n : ℕ) → 0 < latest cs m c n
+      → ((k : ℕ) → k < n → clashesAt k ≡ true → entry cs k .finish ≡ latest cs m c n → C) → C
   unfolding latest boundOf
   latest-some zero h go = absurd (not-suc-le-zero h)
   latest-some (suc n) h go =
@@ -208,8 +209,7 @@ module _ (cs : Copies) (m : ℕ) (c : Copy) where
 
   -- one that clashes ends the search
   pub hit-found : (before : List ℕ) (last left k at : ℕ) → left ≡ suc k → Passed cs m c before last left at
-      → ((n : ℕ) → n ≡ c .node → true ≡ clashes m c (record { node = n; start = getD (cs .start) k 0; finish = getD (cs .finish) k 0 }) (setAt cs k))
-      → eqb (getD (cs .finish) k 0) 0 ≡ free cs m c last
+      → Hits m c (getD (cs .start) k 0) (getD (cs .finish) k 0) (setAt cs k) true → eqb (getD (cs .finish) k 0) 0 ≡ free cs m c last
   unfolding latest boundOf
   hit-found before last left k at e h g =
       let it : Passed cs m c before last (suc k) at = subst (λ x. Passed cs m c before last x at) e h in

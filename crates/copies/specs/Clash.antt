@@ -1,6 +1,7 @@
 -- When entries of the table clash with a copy, and the latest finish of those that do.
 use Prim.Native.Nat.{ℕ, zero, suc, max}
 use mathlib.Core.Bool.{Bool, not, cond}
+use mathlib.Core.Path.{_≡_}
 use lib.Dec.{ltb, eqb}
 use Rattle.reader.specs.Tests.{_and_}
 use Rattle.reader.specs.First.{every}
@@ -12,6 +13,10 @@ use Rattle.copies.specs.Table.{entry, setAt}
 -- an entry e of set z clashes with a copy c of set m
 unfoldable pub clashes : ℕ → Copy → Copy → ℕ → Bool
 clashes m c e z = eqb (e .node) (c .node) and meets z m and ltb (e .start) (c .finish) and ltb (c .start) (e .finish)
+
+-- b says it of an entry with this start, finish and set, where that is on the copy's node
+abbrev pub Hits : ℕ → Copy → ℕ → ℕ → ℕ → Bool → Type 0
+Hits m c start finish z b = (node : ℕ) → node ≡ c .node → b ≡ clashes m c (record { node = node; start = start; finish = finish }) z
 
 -- none of the first n entries clashes with c
 unfoldable pub free : Copies → ℕ → Copy → ℕ → Bool

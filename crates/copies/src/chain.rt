@@ -2,11 +2,10 @@
 // entry's number, and 0 at the chain's end.
 use crate::table::Copies;
 use reader::job::Job;
-ghost use mathlib.Core.Path.{_≡_};
-ghost use Prim.Native.Nat.{ℕ, _+_, _<_};
+ghost use Prim.Native.Nat.{_<_};
 ghost use Rattle.reader.specs.Limits.{maxNodes};
 ghost use Rattle.copies.specs.Table.{copyCount};
-ghost use Rattle.copies.specs.Chain.{Chained};
+ghost use Rattle.copies.specs.Chain.{Joins};
 
 // Entry k, on node n, begins the chain of that node.
 pub fn join(
@@ -16,7 +15,7 @@ pub fn join(
     n: u32,
 )
     requires { ⌜ (k < copyCount) × (n < maxNodes) ⌝ }
-    ensures { λ _. ⌜ ((key : ℕ → ℕ) → key k ≡ n → Chained key maxNodes copyCount k (now (last .entry)) (now (before .entry)) → Chained key maxNodes copyCount (k + 1) (now (last .exit)) (now (before .exit))) ⌝ }
+    ensures { λ _. ⌜ Joins maxNodes copyCount k n (now (last .entry)) (now (before .entry)) (now (last .exit)) (now (before .exit)) ⌝ }
 {
     let i = n as usize;
     before[k] = last[i];

@@ -4,15 +4,15 @@ use crate::arrival::pick;
 use crate::table::Copies;
 use rules::Copy;
 ghost use mathlib.Core.Path.{_≡_};
-ghost use Prim.Native.Nat.{ℕ, _≤_, max};
+ghost use Prim.Native.Nat.{_≤_, max};
 ghost use lib.Dec.{eqb};
 ghost use Rattle.copies.specs.Table.{copyCount, table, nodeAt};
 ghost use Rattle.copies.specs.Chain.{Chain};
-ghost use Rattle.copies.specs.Clash.{clashes, free, untilOf, boundOf, latest};
+ghost use Rattle.copies.specs.Clash.{free, Hits, untilOf, boundOf, latest};
 
 // Whether an entry on the copy's node clashes with a copy of this set.
 pub fn hits(start: u32, finish: u32, entry_set: u32, copy: Copy, set: u32) -> bool
-    ensures { λ r. ⌜ ((node : ℕ) → node ≡ copy .node → r ≡ clashes set copy (record { node = node; start = start; finish = finish }) «entry_set») ⌝ }
+    ensures { λ r. ⌜ Hits set copy start finish «entry_set» r ⌝ }
 {
     (entry_set & set != 0) & (start < copy.finish) & (copy.start < finish)
 }

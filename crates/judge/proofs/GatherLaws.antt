@@ -54,7 +54,8 @@ module _ (sets : List ℕ) (left i q : ℕ) (low : i < maxTasks) (here : has lef
       (λ e. or-l _ _ (subst (λ n. has (getD sets (2 * n + 1) 0) q ≡ true) (sym (eqb-true i m e)) (and-r _ _ t)))
       (λ e. or-r _ _ (any-i maxTasks _ m p (and-i _ _ (has-less i left m here ∙ and-i _ _ (and-l _ _ t) (not-i _ e)) (and-r _ _ t)))))
 
-pub gather-more : (own weak : ℕ) (sets : List ℕ) (r left bit : ℕ) → Gathering own weak sets r left → 0 < left → left < 2 ^ 64 → bit ≡ 2 ^ trailingZeros 64 left
+pub gather-more : (own weak : ℕ) (sets : List ℕ) (r left bit : ℕ) → Gathering own weak sets r left
+    → 0 < left → left < 2 ^ 64 → bit ≡ 2 ^ trailingZeros 64 left
     → Gathering own weak sets (bitOr r (getD sets (2 * trailingZeros 64 left + 1) 0)) (left - bit)
 gather-more own weak sets r left bit h some fits e =
     let i = trailingZeros 64 left in
@@ -65,7 +66,8 @@ gather-more own weak sets r left bit h some fits e =
           (h .is q);
     }
 
-pub gather-done : (own weak : ℕ) (sets : List ℕ) (r left : ℕ) → Gathering own weak sets r left → left ≡ 0 → (q : ℕ) → has r q ≡ gathered own weak sets q
+pub gather-done : (own weak : ℕ) (sets : List ℕ) (r left : ℕ) → Gathering own weak sets r left → left ≡ 0
+    → (q : ℕ) → has r q ≡ gathered own weak sets q
 gather-done own weak sets r left h e q =
     let nothing : any maxTasks (sent sets left q) ≡ false =
     not-true _ λ t. any-e maxTasks _ t λ i p s. clash _ (and-l _ _ s) (ap (λ w. has w i) e ∙ has-none i) in

@@ -24,7 +24,7 @@ use Rattle.rules.specs.Judge.{firstPair}
 use Rattle.copies.specs.declared.table.Copies.{Copies}
 use Rattle.copies.specs.Sets.{has, meets, everyNode}
 use Rattle.copies.specs.Table.{copyCount, nodeAt, entry, setAt, rowOf, Held}
-use Rattle.copies.specs.Chain.{Chain, Chained}
+use Rattle.copies.specs.Chain.{Chain, Chained, Joins}
 use Rattle.copies.specs.Clash.{clashes, free, boundOf}
 use Rattle.reader.proofs.TestLaws.{and-yes, and-join}
 use Rattle.copies.proofs.SetLaws.{has-every, meets-i, meets-any}
@@ -77,8 +77,7 @@ module _ (cs : Copies) (n : ℕ) (low : Low (cs .node) n) where
     pub seen-more : (p b : Copy) (ep : p ≡ entry cs (2 * j)) (eb : b ≡ entry cs (2 * j + 1)) (u v : ℕ)
         → eqb u 0 ≡ free cs (setAt cs (2 * j)) p (getD last (p .node) 0) → eqb v 0 ≡ free cs (setAt cs (2 * j + 1)) b (getD last (b .node) 0)
         → (l m h a : List ℕ)
-        → ((key : ℕ → ℕ) → key (2 * j) ≡ p .node → Chained key maxNodes copyCount (2 * j) last before → Chained key maxNodes copyCount (2 * j + 1) l h)
-        → ((key : ℕ → ℕ) → key (2 * j + 1) ≡ b .node → Chained key maxNodes copyCount (2 * j + 1) l h → Chained key maxNodes copyCount (2 * j + 1 + 1) m a)
+        → Joins maxNodes copyCount (2 * j) (p .node) last before l h → Joins maxNodes copyCount (2 * j + 1) (b .node) l h m a
         → Seen cs n (j + 1) (bitOr (bitOr found u) v) a m
     unfolding clear
     seen-more p b ep eb u v eu ev l m h a first second =
@@ -95,7 +94,8 @@ module _ (cs : Copies) (n : ℕ) (low : Low (cs .node) n) where
   seen-done j found before last s p = let e : j ≡ n = omega (arith, s .within) in subst (λ k. eqb found 0 ≡ every k (clear cs)) e (s .is)
 
 -- a pair of tasks, by the four bounds
-pub pair-bounds : (cs : Copies) (i j : ℕ) (p b q c : Copy) → p ≡ entry cs (2 * i) → b ≡ entry cs (2 * i + 1) → q ≡ entry cs (2 * j) → c ≡ entry cs (2 * j + 1)
+pub pair-bounds : (cs : Copies) (i j : ℕ) (p b q c : Copy) → p ≡ entry cs (2 * i) → b ≡ entry cs (2 * i + 1)
+    → q ≡ entry cs (2 * j) → c ≡ entry cs (2 * j + 1)
     → (x y z w : ℕ)
     → x ≡ boundOf (setAt cs (2 * j)) q p (setAt cs (2 * i)) → y ≡ boundOf (setAt cs (2 * j)) q b (setAt cs (2 * i + 1))
     → z ≡ boundOf (setAt cs (2 * j + 1)) c p (setAt cs (2 * i)) → w ≡ boundOf (setAt cs (2 * j + 1)) c b (setAt cs (2 * i + 1))

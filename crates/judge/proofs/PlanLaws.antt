@@ -118,7 +118,8 @@ module _ (job : Job) (plan : Plan) (sound : Sound job) (reads : PlanSound job pl
       unfolding weakLink
       weak-i k p h =
           weak _ _ (omega (arith, sound .into k p, sound .tasks-most))
-          ∙ any-i (links job) _ k p (and-i _ _ (eq-eqb (link job k .from) _ refl) (and-i _ _ (eq-eqb (link job k .to) _ refl) (not-i _ (strong-same k p ∙ h))))
+          ∙ any-i (links job) _ k p
+          (and-i _ _ (eq-eqb (link job k .from) _ refl) (and-i _ _ (eq-eqb (link job k .to) _ refl) (not-i _ (strong-same k p ∙ h))))
 
       pub senders : Senders (cs .node) into (tasks job)
       senders =
@@ -146,7 +147,8 @@ module _ (job : Job) (plan : Plan) (sound : Sound job) (reads : PlanSound job pl
             (λ e. any-e maxTasks _ e λ i pi s. weak-e j i low (and-l _ _ s) λ k pk from to w.
             faults-over job t j (t j .primary) q k pk (eq-eqb (link job k .to) j to)
             (subst (λ m. strong job (link job k) (t (link job k .from)) (t m .primary) ≡ false) to w)
-            (subst (λ m. t m .faults q ≡ true) (sym from) (sym (faults-are n i q (omega (arith, sound .rise k pk, from, to)) (omega arith)) ∙ and-r _ _ s))))
+            (subst (λ m. t m .faults q ≡ true) (sym from)
+            (sym (faults-are n i q (omega (arith, sound .rise k pk, from, to)) (omega arith)) ∙ and-r _ _ s))))
             (λ h. faults-e job t j (t j .primary) q h
             (λ e. or-l _ _ (eq-eqb (getD (cs .node) (2 * j) 0) q (own ∙ e)))
             (λ k pk to w s. or-r _ _ (any-i maxTasks _ (link job k .from) (omega (arith, sound .rise k pk, sound .into k pk, sound .tasks-most))

@@ -23,7 +23,15 @@ use Rattle.judge.specs.Parts.{byLinks}
 -- a job with the first n of these links
 abbrev pub linked : Job → List Link → ℕ → Job
 linked job ls n =
-    record { version = job .version; «node_count» = nodes job; nodes = job .nodes; «task_count» = tasks job; tasks = job .tasks; «link_count» = n; links = ls }
+    record {
+      version = job .version;
+      «node_count» = nodes job;
+      nodes = job .nodes;
+      «task_count» = tasks job;
+      tasks = job .tasks;
+      «link_count» = n;
+      links = ls;
+    }
 
 -- what the pass over the first n links rests on: each leads from task to task, and its delay can be added to the sender's finishes
 pub record Timed (list : List Link) (n : ℕ) (cs : Copies) : Type 0 where

@@ -29,7 +29,15 @@ copyOn task n s = record { node = n; start = s; finish = s + getD (task .run) n 
 -- a job with these nodes, and with the first n of these tasks
 abbrev pub tasked : Job → List Task → List Node → ℕ → Job
 tasked job list rack n =
-    record { version = job .version; «node_count» = nodes job; nodes = rack; «task_count» = n; tasks = list; «link_count» = links job; links = job .links }
+    record {
+      version = job .version;
+      «node_count» = nodes job;
+      nodes = rack;
+      «task_count» = n;
+      tasks = list;
+      «link_count» = links job;
+      links = job .links;
+    }
 
 -- what the pass over the first n tasks rests on: their copies fit, and the detect time of each primary's node does
 pub record Placeable (list : List Task) (rack : List Node) (n : ℕ) (plan : Plan) : Type 0 where

@@ -21,7 +21,8 @@ use Rattle.planner.specs.declared.inputs.Ready.{Ready}
 use Rattle.planner.specs.declared.search.Ask.{Ask}
 use Rattle.planner.specs.declared.search.Search.{Search}
 use Rattle.planner.specs.Inputs.{readyOn}
-use Rattle.planner.specs.Search.{spot, tryAt, startedAt, onNode, bestOf, finishBelow, noPlace, placeBy, soonerOf, freeFrom, nodeOk, fits, Searched, Asked}
+use Rattle.planner.specs.Search.{spot, tryAt, startedAt, onNode, bestOf, finishBelow, noPlace, placeBy, soonerOf}
+use Rattle.planner.specs.Search.{freeFrom, nodeOk, fits, Searched, Asked}
 use Rattle.planner.proofs.LeapLaws.{on-node-same, on-node-unable, barred-nothing, unbarred}
 
 -- what is found at t finishes at t

@@ -1,37 +1,32 @@
--- Both copies of a task stored.
+-- Both copies of a task stored, and at the head of their chains.
 use Prim.Native.Nat.{ℕ, _+_, _*_}
 use mathlib.Core.List.{List}
-use mathlib.Core.Path.{_≡_, sym, _∙_, ap}
+use mathlib.Core.Path.{_≡_, _∙_}
 use native.Mathlib.Omega.{arith}
 use Rattle.reader.specs.Limits.{maxNodes}
 use Rattle.copies.specs.declared.table.Copies.{Copies}
 use Rattle.copies.specs.Sets.{everyNode}
 use Rattle.copies.specs.Table.{copyCount, Whole, Stored}
-use Rattle.copies.specs.Chain.{Chained}
-use Rattle.copies.proofs.ChainLaws.{chained-pair, chained-same}
+use Rattle.copies.specs.Chain.{Chained, Joins}
+use Rattle.copies.proofs.ChainLaws.{chained-pair}
 use Rattle.planner.specs.declared.task.Pair.{Pair}
 use Rattle.planner.specs.Tasks.{Booked}
 
--- each copy begins the chain of its node
-abbrev Joins : ℕ → ℕ → List ℕ → List ℕ → List ℕ → List ℕ → Type 0
-Joins k n last before last' before' =
-    (key : ℕ → ℕ) → key k ≡ n → Chained key maxNodes copyCount k last before → Chained key maxNodes copyCount (k + 1) last' before'
-
 pub stored-booked : (cs : Copies) (j : ℕ) (x : Pair) (half r : Copies) → Stored cs (2 * j) (x .primary) everyNode half
-    → Stored half (2 * j + 1) (x .backup) (x .set) r → Whole r
-    → (last before l b m a : List ℕ) → Joins (2 * j) (x .primary .node) last before l b → Joins (2 * j + 1) (x .backup .node) l b m a
-    → Booked j x cs before last r a m
-stored-booked cs j x half r one then whole last before l b m a u v =
-    let primary = then .other (2 * j) (λ e. omega arith) ∙ one .here in
+    → Stored half (2 * j + 1) (x .backup) (x .set) r → Whole r → Booked j x cs r
+stored-booked cs j x half r one then whole =
     record {
       whole = whole;
-      primary = primary;
+      primary = then .other (2 * j) (λ e. omega arith) ∙ one .here;
       primary-set = then .other-set (2 * j) (λ e. omega arith) ∙ one .here-set;
       backup = then .here;
       backup-set = then .here-set;
       other = λ k y z. then .other k z ∙ one .other k y;
       other-set = λ k y z. then .other-set k z ∙ one .other-set k y;
-      laid = λ h. chained-pair _ _ _ j last before l b m a
-          (chained-same _ _ _ _ _ _ _ (λ i w. sym (ap (λ c. c .node) (then .other i (omega arith) ∙ one .other i (omega arith)))) h)
-          (u _ (ap (λ c. c .node) primary)) (v _ (ap (λ c. c .node) (then .here)));
     }
+
+-- copies on nodes x and y
+pub joined-up : (j x y : ℕ) (last before l b m a : List ℕ) → Joins maxNodes copyCount (2 * j) x last before l b
+    → Joins maxNodes copyCount (2 * j + 1) y l b m a → (key : ℕ → ℕ) → key (2 * j) ≡ x → key (2 * j + 1) ≡ y
+    → Chained key maxNodes copyCount (2 * j) last before → Chained key maxNodes copyCount (2 * (j + 1)) m a
+joined-up j x y last before l b m a u v key p q h = chained-pair key _ _ j last before l b m a h (u key p) (v key q)

@@ -128,8 +128,10 @@ module _ (next from delay : List ℕ) (cs : Copies) (last set : ℕ) where
   pub record Reaching (left : ℕ) (r : Reach) : Type 0 where
     pub walk : Walk next from delay cs last left
     pub most : r .at ≤ latestInput
-    pub covers : (key : ℕ → ℕ) (j : ℕ) → Chain key next j last → (d : Copy) → r .at ≤ d .start → fed key j left d ≡ true → fed key j last d ≡ true
-    pub reached : (key : ℕ → ℕ) (j : ℕ) → Chain key next j last → (d : Copy) → (d .node ≡ r .from → ⊥) → fed key j last d ≡ true → r .at ≤ d .start
+    pub covers : (key : ℕ → ℕ) (j : ℕ) → Chain key next j last
+        → (d : Copy) → r .at ≤ d .start → fed key j left d ≡ true → fed key j last d ≡ true
+    pub reached : (key : ℕ → ℕ) (j : ℕ) → Chain key next j last
+        → (d : Copy) → (d .node ≡ r .from → ⊥) → fed key j last d ≡ true → r .at ≤ d .start
 
   pub reaching-start : Sending next from delay cs last → (r : Reach) → r .at ≡ 0 → Reaching last r
   reaching-start pre r z =
@@ -154,7 +156,8 @@ module _ (next from delay : List ℕ) (cs : Copies) (last set : ℕ) where
   pub record Owning (q left own : ℕ) : Type 0 where
     pub walk : Walk next from delay cs last left
     pub most : own ≤ latestInput
-    pub is : (key : ℕ → ℕ) (j : ℕ) → Chain key next j last → (d : Copy) → d .node ≡ q → (leb own (d .start) and fed key j left d) ≡ fed key j last d
+    pub is : (key : ℕ → ℕ) (j : ℕ) → Chain key next j last
+        → (d : Copy) → d .node ≡ q → (leb own (d .start) and fed key j left d) ≡ fed key j last d
 
   pub owning-start : Sending next from delay cs last → (q : ℕ) → Owning q last 0
   owning-start pre q =

@@ -306,7 +306,8 @@ module _ (next from delay : List ℕ) (cs : Copies) (before last : List ℕ) (wa
               the-backup : slotCopy b ≡ earliest job j (backupKeepsBeside job (w .rows) (rowOf cs) j p)
               the-backup = gave t _ is-t refl refl _ backup-fits b is-b
 
-              pub no-backup : b ≡ Nothing → attempted (Nowhere (NoBackup j)) ≡ placeTask job (primaryFrom (want .least) (want .shut)) (w .rows) (rowOf cs) j
+              pub no-backup : b ≡ Nothing
+                  → attempted (Nowhere (NoBackup j)) ≡ placeTask job (primaryFrom (want .least) (want .shut)) (w .rows) (rowOf cs) j
               unfolding attempted placeTask _>>=_ _or-refuse_
               no-backup e = rw (some-primary, sym the-backup ∙ ap slotCopy e)
 

@@ -12,7 +12,6 @@ use native.Mathlib.Omega.{arith}
 use Rattle.reader.specs.declared.job.Job.{Job}
 use Rattle.reader.specs.declared.plan.Plan.{Plan}
 use Rattle.reader.specs.declared.refusal.Refusal.{Refusal}
-use Rattle.reader.specs.declared.refusal.Answer.the-variants.{Done}
 use Rattle.reader.specs.Tests.{_and_}
 use Rattle.reader.specs.Limits.{maxNodes, maxLinks, maxStart, maxTime}
 use Rattle.reader.specs.Entries.{nodes, tasks, links, task, link}
@@ -33,7 +32,7 @@ use Rattle.copies.specs.Sets.{has, everyNode}
 use Rattle.copies.specs.Table.{copyCount, entry, setAt, rowOf, emptyCopies, Held}
 use Rattle.copies.proofs.ListMore.{replicated}
 use Rattle.copies.proofs.SetLaws.{has-none}
-use Rattle.copies.proofs.ChainLaws.{chained-start, chain-within}
+use Rattle.copies.proofs.ChainLaws.{chained-start, chained-same, chain-within}
 use Rattle.copies.proofs.TableLaws.{same-row, empty-rows}
 use Rattle.planner.specs.declared.Planned.{Planned}
 use Rattle.planner.specs.declared.task.Want.{Want}
@@ -41,7 +40,8 @@ use Rattle.planner.specs.declared.task.Pair.{Pair}
 use Rattle.planner.specs.declared.task.Placing.{Placing}
 use Rattle.planner.specs.declared.task.Placing.the-variants.{At, Nowhere}
 use Rattle.planner.specs.Senders.{Net, Sent}
-use Rattle.planner.specs.Tasks.{primaryFrom, wantOf, Wanted, pairRow, attempted, Bookable, Booked, Planning, placesTo, listed, planned}
+use Rattle.planner.specs.Tasks.{primaryFrom, wantOf, Wanted, pairRow, attempted, Bookable, Booked, Chainable, ChainedUp}
+use Rattle.planner.specs.Tasks.{Planning, placesTo, listed, planned}
 use Rattle.planner.proofs.SentLaws.{sent-into}
 use Rattle.planner.proofs.KeepsLaws.{Found, best-found}
 
@@ -128,16 +128,18 @@ module _ (job : Job) (net : Net) (j : ℕ) (cs : Copies) (before last : List ℕ
         (λ k b e w h. so-far .beside .held .within (link job k .from) n (omega (arith, so-far .sound .rise k b)) h)
 
     pub bookable : Bookable cs j x
-    bookable =
+    bookable = (so-far .beside .whole, omega (arith, so-far .sound .tasks-most))
+
+    pub chainable : Chainable j x
+    chainable =
         record {
-          whole = so-far .beside .whole;
           room = omega (arith, so-far .sound .tasks-most);
           primary = omega (arith, p-found .node, so-far .sound .nodes-most);
           backup = omega (arith, q-found .node, so-far .sound .nodes-most);
         }
 
     -- and stored
-    module _ (r : Copies) (before' last' : List ℕ) (b : Booked j x cs before last r before' last') where
+    module _ (r : Copies) (b : Booked j x cs r) where
       the-row : rowOf r j ≡ pairRow x
       unfolding rowOf
       the-row = same-row _ _ _ _ _ _ (b .primary) (b .backup) (ap has (b .backup-set))
@@ -156,7 +158,8 @@ module _ (job : Job) (net : Net) (j : ℕ) (cs : Copies) (before last : List ℕ
           (λ e. other-row i (eqb-false i j e) ∙ sym (put-other (rowOf cs) j _ i (eqb-false i j e)))
 
       -- what holds of the old entries and of the new holds of all
-      all-entries : (P : Copy → Type 0) → ((k : ℕ) → k < 2 * j → P (entry cs k)) → P (x .primary) → P (x .backup) → (k : ℕ) → k < 2 * (j + 1) → P (entry r k)
+      all-entries : (P : Copy → Type 0) → ((k : ℕ) → k < 2 * j → P (entry cs k)) → P (x .primary) → P (x .backup)
+          → (k : ℕ) → k < 2 * (j + 1) → P (entry r k)
       all-entries P o u v k w =
           elim (decLt k (2 * j)) [
             | yes y ↦ subst P (sym (b .other k (omega arith) (omega arith))) (o k y)
@@ -193,9 +196,9 @@ module _ (job : Job) (net : Net) (j : ℕ) (cs : Copies) (before last : List ℕ
             | no y ↦ omega (arith, ap (λ c. c .finish) (b .other k (omega arith) (omega arith)), so-far .beside .soon k)
           ]
 
-      pub plan-more : Planning job net (j + 1) r before' last'
+      pub plan-more : (before' last' : List ℕ) → ChainedUp j x last before last' before' → Planning job net (j + 1) r before' last'
       unfolding placeTasks _>>=_
-      plan-more =
+      plan-more before' last' up =
           record {
             sound = so-far .sound;
             sent = so-far .sent;
@@ -206,7 +209,8 @@ module _ (job : Job) (net : Net) (j : ℕ) (cs : Copies) (before last : List ℕ
               held = next-held;
               whole = b .whole;
               soon = next-soon;
-              laid = b .laid (so-far .beside .laid);
+              laid = up _ (ap (λ c. c .node) (b .primary)) (ap (λ c. c .node) (b .backup))
+                  (chained-same _ _ _ _ _ _ _ (λ i w. sym (ap (λ c. c .node) (b .other i (omega arith) (omega arith)))) (so-far .beside .laid));
             };
           }
 
@@ -218,7 +222,8 @@ module _ (job : Job) (net : Net) (j : ℕ) (cs : Copies) (before last : List ℕ
       e ∙ rw (stays job (suc j) x (rw (so-far .is, w)) (tasks job) task-of)
 
 -- the loop over tasks
-pub plan-start : (job : Job) (net : Net) (before last : List ℕ) → Sound job → Sent (job .links) (links job) (net .last) (net .next) (net .from) (net .delay)
+pub plan-start : (job : Job) (net : Net) (before last : List ℕ) → Sound job
+    → Sent (job .links) (links job) (net .last) (net .next) (net .from) (net .delay)
     → before ≡ replicate copyCount 0 → last ≡ replicate maxNodes 0 → Planning job net 0 emptyCopies before last
 unfolding placeTasks
 plan-start job net before last sound sent b l =
@@ -251,8 +256,8 @@ module _ (job : Job) (net : Net) (j : ℕ) (cs : Copies) (before last : List ℕ
       omega (arith, within, so-far .sound .links-most)
 
   pub plan-done : (plan : Plan) → j ≡ tasks job → plan ≡ listed (tasks job) (placesTo (cs .node) (cs .start) (tasks job))
-      → record { answer = Done; plan = plan } ≡ planned (planner job)
-  unfolding planner plannerWith planned planOf placesTo placeOf rowOf _>>=_
-  plan-done plan e l =
+      → (r : Planned) → r ≡ planned (placed plan) → r ≡ planned (planner job)
+  unfolding planner plannerWith planOf placesTo placeOf rowOf _>>=_
+  plan-done plan e l r h =
       let d : placeTasks job anywhere (tasks job) ≡ placed (rowOf cs) = subst (λ k. placeTasks job anywhere k ≡ placed (rowOf cs)) e (so-far .is) in
-      rw (d, l)
+      h ∙ ap (λ plan. planned (placed plan)) l ∙ rw d

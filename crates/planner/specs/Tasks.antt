@@ -73,15 +73,23 @@ unfoldable pub attempted : Placing → Attempt Row
 attempted (At x) = placed (pairRow x)
 attempted (Nowhere r) = refused r
 
--- the pair can be stored as task j
-pub record Bookable (cs : Copies) (j : ℕ) (x : Pair) : Type 0 where
-  pub whole : Whole cs
+-- the pair can be stored as task j, and begin chains
+abbrev pub Bookable : Copies → ℕ → Pair → Type 0
+Bookable cs j x = Whole cs × (2 * j + 1 < copyCount)
+
+pub record Chainable (j : ℕ) (x : Pair) : Type 0 where
   pub room : 2 * j + 1 < copyCount
   pub primary : x .primary .node < maxNodes
   pub backup : x .backup .node < maxNodes
 
--- r is the table with it, and the chains have it too
-pub record Booked (j : ℕ) (x : Pair) (cs : Copies) (before last : List ℕ) (r : Copies) (before' last' : List ℕ) : Type 0 where
+-- the chains have it too
+abbrev pub ChainedUp : ℕ → Pair → List ℕ → List ℕ → List ℕ → List ℕ → Type 0
+ChainedUp j x last before last' before' =
+    (key : ℕ → ℕ) → key (2 * j) ≡ x .primary .node → key (2 * j + 1) ≡ x .backup .node
+    → Chained key maxNodes copyCount (2 * j) last before → Chained key maxNodes copyCount (2 * (j + 1)) last' before'
+
+-- r is the table with it
+pub record Booked (j : ℕ) (x : Pair) (cs r : Copies) : Type 0 where
   pub whole : Whole r
   pub primary : entry r (2 * j) ≡ x .primary
   pub primary-set : setAt r (2 * j) ≡ everyNode
@@ -89,7 +97,6 @@ pub record Booked (j : ℕ) (x : Pair) (cs : Copies) (before last : List ℕ) (r
   pub backup-set : setAt r (2 * j + 1) ≡ x .set
   pub other : (k : ℕ) → (k ≡ 2 * j → ⊥) → (k ≡ 2 * j + 1 → ⊥) → entry r k ≡ entry cs k
   pub other-set : (k : ℕ) → (k ≡ 2 * j → ⊥) → (k ≡ 2 * j + 1 → ⊥) → setAt r k ≡ setAt cs k
-  pub laid : Laid j cs before last → Laid (j + 1) r before' last'
 
 -- after the first j tasks, with the job's links by receiver
 pub record Planning (job : Job) (net : Net) (j : ℕ) (cs : Copies) (before last : List ℕ) : Type 0 where

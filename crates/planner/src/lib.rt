@@ -4,6 +4,7 @@ use crate::senders::by_receiver;
 use crate::task::Placing;
 use crate::task::Want;
 use crate::task::book;
+use crate::task::chain_up;
 use crate::task::place_task;
 use copies::table::Copies;
 use reader::job::Job;
@@ -12,7 +13,7 @@ use reader::refusal::Answer;
 use reader::refusal::Refusal;
 ghost use mathlib.Core.Path.{_≡_};
 ghost use Rattle.reader.specs.Sound.{Sound};
-ghost use Rattle.rules.specs.Attempts.{refused};
+ghost use Rattle.rules.specs.Attempts.{refused, placed};
 ghost use Rattle.rules.specs.Planner.{planner};
 ghost use Rattle.planner.specs.Tasks.{planned};
 
@@ -36,6 +37,15 @@ fn unplanned(refusal: Refusal) -> Planned
     Planned {
         answer: Answer::Refused(refusal),
         plan: Plan::empty(),
+    }
+}
+
+fn all_planned(plan: Plan) -> Planned
+    ensures { λ r. ⌜ r ≡ planned (placed plan) ⌝ }
+{
+    Planned {
+        answer: Answer::Done,
+        plan,
     }
 }
 
@@ -75,21 +85,12 @@ pub fn plan_job(job: Job) -> Planned
         );
         match x {
             Placing::Nowhere(r) => return unplanned(r),
-            Placing::At(pair) => book(
-                &mut node,
-                &mut start,
-                &mut finish,
-                &mut sets,
-                &mut before,
-                &mut last,
-                j,
-                pair,
-            ),
+            Placing::At(pair) => {
+                book(&mut node, &mut start, &mut finish, &mut sets, j, pair);
+                chain_up(&mut before, &mut last, j, pair);
+            }
         }
         j += 1;
     }
-    Planned {
-        answer: Answer::Done,
-        plan: plan_of(&node, &start, n),
-    }
+    all_planned(plan_of(&node, &start, n))
 }

@@ -55,7 +55,8 @@ from-start NoLoss = tt
 from-start (Lost q f) = omega arith
 
 -- by G copies that one loss calls on do not overlap
-pub called-apart : (job : Job) (r s : Row) (a b : Role) (loss : Loss) → LossOf job loss → ruleGPrimary r (s .primary) ≡ true → ruleGBackup job r s ≡ true
+pub called-apart : (job : Job) (r s : Row) (a b : Role) (loss : Loss) → LossOf job loss
+    → ruleGPrimary r (s .primary) ≡ true → ruleGBackup job r s ≡ true
     → Called a loss (r .faults) → Called b loss (s .faults) → overlap (copyOf a r) (copyOf b s) ≡ false
 unfolding ruleGPrimary ruleGBackup
 called-apart job r s primary primary loss of-job rp rb h g = not-e _ (and-l _ _ rp)

@@ -92,7 +92,13 @@ module _ (job : Job) (sound : Sound job) where
             (λ e. rw (e, put-same t n r) (keeps-on job sound t (put t n r) n (λ i m. sym (before i m)) r k));
         planned = λ plan e.
             grow-more blankRow (plannedRow job plan) n
-            ∙ rw (table .planned plan (λ j q. e j (omega arith) ∙ ap placeOf (before j q)), e n (omega arith), put-same t n r, k .primary .is, k .backup .is);
+            ∙ rw (
+              table .planned plan (λ j q. e j (omega arith) ∙ ap placeOf (before j q)),
+              e n (omega arith),
+              put-same t n r,
+              k .primary .is,
+              k .backup .is,
+            );
       }
 
   pub table-placed : (may : ℕ → Copy → Bool) (n : ℕ) (t : ℕ → Row) → placeTasks job may n ≡ placed t → Table job n t
@@ -148,7 +154,8 @@ module _ (job : Job) (sound : Sound job) where
   -- whatever the primaries may be
   module _ (may : ℕ → Copy → Bool) (plan : Plan) (h : plannerWith may job ≡ placed plan) where
     -- the plan is that of a table that was placed
-    from-table : {C : Type 0} → ((t : ℕ → Row) → placeTasks job may (tasks job) ≡ placed t → Table job (tasks job) t → planOf job t ≡ plan → C) → C
+    from-table : {C : Type 0}
+        → ((t : ℕ → Row) → placeTasks job may (tasks job) ≡ placed t → Table job (tasks job) t → planOf job t ≡ plan → C) → C
     unfolding plannerWith
     from-table go = bind-placed _ _ plan h λ t ht e. go t ht (table-placed may (tasks job) t ht) (cc)
 

@@ -20,7 +20,8 @@ many-digits = refl
 -- '0 0 0 1 5' and '1 0 4 1 9'
 pub sample-1 :
     listing (jobBytes J)
-    ≡ header ++ (48 ∷ 32 ∷ 48 ∷ 32 ∷ 48 ∷ 32 ∷ 49 ∷ 32 ∷ 53 ∷ 10 ∷ []) ++ (49 ∷ 32 ∷ 48 ∷ 32 ∷ 52 ∷ 32 ∷ 49 ∷ 32 ∷ 57 ∷ 10 ∷ [])
+    ≡ header ++ (48 ∷ 32 ∷ 48 ∷ 32 ∷ 48 ∷ 32 ∷ 49 ∷ 32 ∷ 53 ∷ 10 ∷ [])
+    ++ (49 ∷ 32 ∷ 48 ∷ 32 ∷ 52 ∷ 32 ∷ 49 ∷ 32 ∷ 57 ∷ 10 ∷ [])
 unfolding filed computed printing
 sample-1 = refl
 

@@ -12,7 +12,8 @@ use Rattle.reader.specs.declared.refusal.Refusal.{Refusal}
 use Rattle.reader.specs.declared.refusal.Answer.the-variants.{Done}
 use Rattle.reader.specs.JobFile.{jobAt, readJob}
 use Rattle.reader.specs.PlanFile.{planFault, readPlan}
-use Rattle.writer.specs.Write.{jobNumbers, jobBytes, planNumbers, planBytes, roomFault, writeJobFault, writePlanFault, writes, wrote, writeJob, writePlan}
+use Rattle.writer.specs.Write.{jobNumbers, jobBytes, planNumbers, planBytes, roomFault, writeJobFault, writePlanFault}
+use Rattle.writer.specs.Write.{writes, wrote, writeJob, writePlan}
 use Rattle.writer.specs.Equality.{JobIn, PlanIn}
 use Rattle.reader.specs.Number.{Bytes, Words}
 use Rattle.reader.proofs.FirstLaws.{or-else-l, or-else-r, or-else-i, none-unless}
@@ -37,8 +38,8 @@ job-rewritten s out b d h =
     let r = job-done s d in
     rw (r .job, job-written-back s b (r .fault)) (writes-none _ s out (or-else-i _ _ (r .fault) (room-none out (length s) h)))
 
-pub plan-rewritten : (f s out : List ℕ) → Bytes f → Bytes s → readJob f .answer ≡ Done → readPlan s (readJob f .job) .answer ≡ Done → length s ≤ length out →
-    writePlan (readJob f .job) (readPlan s (readJob f .job) .plan) out ≡ wrote s out
+pub plan-rewritten : (f s out : List ℕ) → Bytes f → Bytes s → readJob f .answer ≡ Done → readPlan s (readJob f .job) .answer ≡ Done
+    → length s ≤ length out → writePlan (readJob f .job) (readPlan s (readJob f .job) .plan) out ≡ wrote s out
 unfolding writePlan writePlanFault
 plan-rewritten f s out bf bs df ds h =
     let j = job-done f df in

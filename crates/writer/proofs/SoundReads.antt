@@ -56,11 +56,12 @@ first-above l h =
 
 -- an entry in a file
 module _ (s : List ℕ) where
-  head-in : (v : ℕ) (vs : List ℕ) (at b low high : ℕ) → Stands s at (v ∷ vs) b → low ≤ v → v ≤ high → at + 4 ≤ length s → Good s at low high
+  head-in : (v : ℕ) (vs : List ℕ) (at b low high : ℕ) → Stands s at (v ∷ vs) b → low ≤ v → v ≤ high → at + 4 ≤ length s
+      → Good s at low high
   head-in v vs at b low high h l m r = omega (arith, stands-at s (v ∷ vs) at b h 0 at (omega arith) (omega arith))
 
-  task-in : (job : Job) (at p j : ℕ) → Stands s at (taskNumbers job p j) (at + (4 + 4 * p)) → at + (4 + 4 * p) ≤ length s → SoundTask p (task job j) →
-      GoodTask s at p
+  task-in : (job : Job) (at p j : ℕ) → Stands s at (taskNumbers job p j) (at + (4 + 4 * p)) → at + (4 + 4 * p) ≤ length s
+      → SoundTask p (task job j) → GoodTask s at p
   unfolding taskNumbers
   task-in job at p j h m g =
       let r = stands-split s (_ ∷ []) _ at (at + (4 + 4 * p)) h in
@@ -79,7 +80,8 @@ module _ (s : List ℕ) where
       let q : SoundLink n (linkAt s at) = rw e g in
       record { to = omega (arith, q); delay = omega (arith, q); order = rw e o }
 
-  place-in : (at p : ℕ) (run : List ℕ) (x : Place) → Stands s at (placeNumbers x) (at + 16) → at + 16 ≤ length s → SoundPlace p run x → GoodPlace s at p run
+  place-in : (at p : ℕ) (run : List ℕ) (x : Place) → Stands s at (placeNumbers x) (at + 16) → at + 16 ≤ length s
+      → SoundPlace p run x → GoodPlace s at p run
   unfolding placeAt
   place-in at p run x h m g =
       let e : placeAt s at ≡ x = place-same _ _ (stands-same s _ _ at (at + 16) (place-stands s at) h) in

@@ -7,7 +7,7 @@ use Rattle.copies.specs.Table.{table}
 use Rattle.copies.proofs.ListMore.{replicated}
 use Rattle.planner.specs.Tasks.{Planning}
 use Rattle.planner.proofs.SenderLaws.{sendable, sent-start}
-use Rattle.planner.proofs.TaskLaws.{into-few, asked, bookable, plan-start, plan-more, plan-stop, plan-done}
+use Rattle.planner.proofs.TaskLaws.{into-few, asked, bookable, chainable, plan-start, plan-more, plan-stop, plan-done}
 use borrow.Author.Needs.{needs}
 use Rattle.planner.proofs.plan_job.Statement.{statement}
 use Rattle.planner.proofs.plan_job.Tie as tie
@@ -50,32 +50,41 @@ returns c =
 
 book-requires : tie.Need-book-requires Inv-loop μ-loop
 book-requires c κs =
-    let at-x2 = c .before .before .before .before .before .before .before in
+    let at-x2 = c .before .before .before .before .before in
     let at-of = at-x2 .before .before .before .before .before .before .before .before .before .before .before .before in
     let at-loop-test = at-of .before .before .before in
     bookable _ _ _ _ _ _ (at-loop-test .before .loop .inv) (at-loop-test .loop-test .taken) _ (at-of .of .ensures) _
     (at-x2 .before .before .place-task .ensures) _ (at-x2 .x2 .given .1)
 
+chain-up-requires : tie.Need-chain-up-requires Inv-loop μ-loop
+chain-up-requires c κs =
+    let at-x2 = c .before .before .before .before .before .before .before .before in
+    let at-of = at-x2 .before .before .before .before .before .before .before .before .before .before .before .before in
+    let at-loop-test = at-of .before .before .before in
+    chainable _ _ _ _ _ _ (at-loop-test .before .loop .inv) (at-loop-test .loop-test .taken) _ (at-of .of .ensures) _
+    (at-x2 .before .before .place-task .ensures) _ (at-x2 .x2 .given .1)
+
 add-j : tie.Need-add-j Inv-loop μ-loop
 add-j c =
     let up1 = c .before .before .before .before .before .before .before .before .before .before .before .before .before .before in
-    let at-loop-test = up1 .before .before .before .before .before .before .before .before .before in
+    let at-loop-test = up1 .before .before .before .before .before .before .before .before .before .before in
     let at-pre = at-loop-test .before .before .before .before .before .before .before .before in
     omega (arith, at-loop-test .loop-test .taken, at-pre .pre .tasks-most)
 
 loop-less : tie.Need-loop-less Inv-loop μ-loop
 loop-less c =
     let up1 = c .before .before .before .before .before .before .before .before .before .before .before .before .before .before in
-    let at-loop-test = up1 .before .before .before .before .before .before .before .before .before in
+    let at-loop-test = up1 .before .before .before .before .before .before .before .before .before .before in
     omega (arith, at-loop-test .loop-test .taken)
 
 loop-again : tie.Need-loop-again Inv-loop μ-loop
 loop-again c =
-    let at-x2 = c .before .before .before .before .before .before .before .before in
+    let at-book = c .before .before .before in
+    let at-x2 = at-book .before .before .before .before .before .before in
     let at-of = at-x2 .before .before .before .before .before .before .before .before .before .before .before .before in
     let at-loop-test = at-of .before .before .before in
     plan-more _ _ _ _ _ _ (at-loop-test .before .loop .inv) (at-loop-test .loop-test .taken) _ (at-of .of .ensures) _
-    (at-x2 .before .before .place-task .ensures) _ (at-x2 .x2 .given .1) _ _ _ (c .book .ensures)
+    (at-x2 .before .before .place-task .ensures) _ (at-x2 .x2 .given .1) _ (at-book .book .ensures) _ _ (c .chain-up .ensures)
 
 plan-of-requires : tie.Need-plan-of-requires Inv-loop μ-loop
 plan-of-requires c κs =
@@ -84,12 +93,13 @@ plan-of-requires c κs =
 
 returns-2 : tie.Need-returns-2 Inv-loop μ-loop
 returns-2 c =
-    let at-loop = c .before .before .before .before in
-    plan-done _ _ _ _ _ _ (at-loop .loop .inv) _ (omega arith) (c .plan-of .ensures)
+    let at-loop = c .before .before .before .before .before in
+    plan-done _ _ _ _ _ _ (at-loop .loop .inv) _ (omega arith) (c .before .plan-of .ensures) _ (c .all-planned .ensures)
 
 pub plan-job-spec : {M : Type 1} → statement M
 plan-job-spec =
     tie.close
     (tie.spec Inv-loop μ-loop (λ c. search needs) (λ c. search needs) (λ c. search needs) by-receiver-requires loop-holds (λ c. search needs)
     (λ c. search needs) (λ c. search needs) (λ c. search needs) cast-of (λ c κs. search needs) place-task-requires (λ c. search needs)
-    (λ c κs. search needs) returns (λ c. search needs) book-requires add-j loop-less loop-again plan-of-requires returns-2)
+    (λ c κs. search needs) returns (λ c. search needs) book-requires chain-up-requires add-j loop-less loop-again plan-of-requires
+    (λ c κs. search needs) returns-2)

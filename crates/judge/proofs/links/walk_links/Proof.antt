@@ -111,8 +111,9 @@ returns-3 c =
 pub walk-links-spec : {M : Type 1} → statement M
 walk-links-spec =
     tie.close
-    (tie.spec Inv-loop μ-loop loop-holds (λ c. search needs) (λ c. search needs) index-requires index-requires-2 (λ c. search needs) (λ c κs. search needs)
-    (λ c. search needs) (λ c. search needs) (λ c κs. search needs) (λ c. search needs) (λ c κs. search needs) (λ c. search needs) (λ c. search needs)
-    (λ c κs. search needs) in-time-requires (λ c κs. search needs) in-time-requires-2 (λ c κs. search needs) in-time-requires-3 (λ c κs. search needs)
-    (λ c. search needs) (λ c. search needs) in-time-requires-4 weak-bit-requires (λ c. search needs) (λ c. search needs) add-k loop-less loop-again mul-l-2
-    array-copy-out-l-2 (λ c. search needs) (λ c. search needs) returns mul-l-3 array-copy-out-l-3 (λ c. search needs) (λ c. search needs) returns-2 returns-3)
+    (tie.spec Inv-loop μ-loop loop-holds (λ c. search needs) (λ c. search needs) index-requires index-requires-2 (λ c. search needs)
+    (λ c κs. search needs) (λ c. search needs) (λ c. search needs) (λ c κs. search needs) (λ c. search needs) (λ c κs. search needs)
+    (λ c. search needs) (λ c. search needs) (λ c κs. search needs) in-time-requires (λ c κs. search needs) in-time-requires-2
+    (λ c κs. search needs) in-time-requires-3 (λ c κs. search needs) (λ c. search needs) (λ c. search needs) in-time-requires-4
+    weak-bit-requires (λ c. search needs) (λ c. search needs) add-k loop-less loop-again mul-l-2 array-copy-out-l-2 (λ c. search needs)
+    (λ c. search needs) returns mul-l-3 array-copy-out-l-3 (λ c. search needs) (λ c. search needs) returns-2 returns-3)

@@ -82,6 +82,6 @@ returns c =
 pub place-copies-spec : {M : Type 1} → statement M
 place-copies-spec =
     tie.close
-    (tie.spec Inv-loop μ-loop loop-holds (λ c. search needs) (λ c. search needs) (λ c. search needs) (λ c. search needs) copy-of-requires copy-of-requires-2
-    (λ c. search needs) (λ c. search needs) (λ c. search needs) (λ c κs. search needs) add-noted (λ c κs. search needs) (λ c κs. search needs) mul-k
-    put-requires add-put put-requires-2 add-j loop-less loop-again (λ c κs. search needs) returns)
+    (tie.spec Inv-loop μ-loop loop-holds (λ c. search needs) (λ c. search needs) (λ c. search needs) (λ c. search needs) copy-of-requires
+    copy-of-requires-2 (λ c. search needs) (λ c. search needs) (λ c. search needs) (λ c κs. search needs) add-noted (λ c κs. search needs)
+    (λ c κs. search needs) mul-k put-requires add-put put-requires-2 add-j loop-less loop-again (λ c κs. search needs) returns)

@@ -8,7 +8,8 @@ use Rattle.planner.proofs.faults.fault_set.Statement.{statement}
 use Rattle.planner.proofs.faults.fault_set.Tie as tie
 
 abbrev Inv-loop : tie.InvT-loop
-Inv-loop next from delay node start finish sets last primary set₀ left₀ set left = Faulting next from delay (table node start finish sets) last primary left set
+Inv-loop next from delay node start finish sets last primary set₀ left₀ set left =
+    Faulting next from delay (table node start finish sets) last primary left set
 
 abbrev μ-loop : tie.MeasureT-loop
 μ-loop next from delay node start finish sets last primary set₀ left₀ set left = left

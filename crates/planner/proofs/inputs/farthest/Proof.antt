@@ -9,7 +9,8 @@ use Rattle.planner.proofs.inputs.farthest.Statement.{statement}
 use Rattle.planner.proofs.inputs.farthest.Tie as tie
 
 abbrev Inv-loop : tie.InvT-loop
-Inv-loop next from delay node start finish sets last set reach₀ left₀ reach left = Reaching next from delay (table node start finish sets) last set left reach
+Inv-loop next from delay node start finish sets last set reach₀ left₀ reach left =
+    Reaching next from delay (table node start finish sets) last set left reach
 
 abbrev μ-loop : tie.MeasureT-loop
 μ-loop next from delay node start finish sets last set reach₀ left₀ reach left = left
