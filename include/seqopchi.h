@@ -113,8 +113,9 @@ enum seqopchi_outcome {
  * 10 late           C: the backup finishes by the deadline; task / task
  * 11 primary unfed  D: primary i's finish plus delay is at most primary j's
  *                   start; link i / j
- * 12 backup unfed   E: the finishes of primary i and backup i, each plus delay,
- *                   are at most backup j's start; link i / j
+ * 12 backup unfed   E: primary i's finish plus delay is at most backup j's start,
+ *                   and so is backup i's where the fault sets of i and j have
+ *                   a common node; link i / j
  * 13 common loss    F: the backup's node is not in the task's fault set; task / task
  * 14 overlap        G: copies on one node do not overlap, except two backups
  *                   whose fault sets have no common node; lower / higher task

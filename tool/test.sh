@@ -153,6 +153,7 @@ round_trip_tests() {
     block 2 "$home/tool/TEXT.md" >described-plan.txt
     round_trip described.txt described-plan.txt
     round_trip "$home/examples/sample.txt"
+    round_trip "$home/examples/slow-links.txt"
     round_trip "$home/examples/oscilloscope.txt"
     round_trip "$home/examples/oscilloscope.txt" "$home/examples/oscilloscope-refused.txt"
     round_trip "$home/examples/oscilloscope.txt" "$home/examples/oscilloscope-passed.txt"
@@ -185,6 +186,9 @@ example_tests() {
     check 'a group for each copy' test "$(grep -c '^<g>' out)" -eq 22
     good chart o.job o.plan --lose 3@4000000000 -o -
     check 'a loss after the end' has out 'Primaries finished: 11. Backups finished: 0. Copies cut: 0.'
+    good pack "$home/examples/slow-links.txt" -o s.job
+    good list s.job
+    check 'backup 2 does not wait for backup 1' cmp -s out <(lines 'task primary at backup at' '0 0 0 1 3' '1 1 0 0 3' '2 0 8 1 10')
 }
 
 # --- refusals, one of each number -------------------------------------------------
@@ -270,6 +274,13 @@ rule_tests() {
     refuses "11 (primary unfed): the result of task 0's primary arrives after the start of task 1's primary" judge j x.plan
     plan_of '0 0 1 5' '0 4 1 8'
     refuses "12 (backup unfed): a result of task 0 arrives after the start of task 1's backup" judge j x.plan
+    plan_of '0 0 2 9' '2 6 1 10'
+    refuses "12 (backup unfed): a result of task 0 arrives after the start of task 1's backup" judge j x.plan
+    plan_of '0 0 1 5' '1 10 0 14'
+    job_text 's/delay 2/delay 6/'
+    good pack x.txt -o k
+    good judge k x.plan
+    check 'sample 8: the fault sets are apart' is out 'passed'
     plan_of '0 0 1 5' '2 10 0 15'
     refuses '13 (common loss): the loss of one node can stop both copies of task 1' judge j x.plan
     plan_of '0 0 2 8' '0 4 2 10'

@@ -207,18 +207,12 @@ static uint64_t judge_tasks(const struct job *job, const struct layout *plan)
     return 0;
 }
 
-static uint64_t judge_links(const struct job *job, const struct layout *plan)
+static uint64_t judge_primary_inputs(const struct job *job, const struct layout *plan)
 {
     for (uint32_t i = 0; i < job->links; i++) {
         const struct link *link = &job->link[i];
         if (!in_time(&plan->primary[link->from], link->delay, &plan->primary[link->to]))
             return refuse(PRIMARY_UNFED, link->from, link->to);
-    }
-    for (uint32_t i = 0; i < job->links; i++) {
-        const struct link *link = &job->link[i];
-        if (!in_time(&plan->primary[link->from], link->delay, &plan->backup[link->to])
-            || !in_time(&plan->backup[link->from], link->delay, &plan->backup[link->to]))
-            return refuse(BACKUP_UNFED, link->from, link->to);
     }
     return 0;
 }
@@ -236,10 +230,24 @@ static void find_fault_sets(const struct job *job, const struct layout *plan, ui
     }
 }
 
-static uint64_t judge_nodes(const struct job *job, const struct layout *plan)
+/* A backup waits for its sender's backup only where one loss may call for both (request (i)). */
+static uint64_t judge_backup_inputs(const struct job *job, const struct layout *plan,
+                                    const uint32_t *faults)
 {
-    uint32_t faults[MAX_TASKS];
-    find_fault_sets(job, plan, faults);
+    for (uint32_t i = 0; i < job->links; i++) {
+        const struct link *link = &job->link[i];
+        const struct copy *receiver = &plan->backup[link->to];
+        if (!in_time(&plan->primary[link->from], link->delay, receiver)
+            || (!in_time(&plan->backup[link->from], link->delay, receiver)
+                && (faults[link->from] & faults[link->to])))
+            return refuse(BACKUP_UNFED, link->from, link->to);
+    }
+    return 0;
+}
+
+static uint64_t judge_nodes(const struct job *job, const struct layout *plan,
+                            const uint32_t *faults)
+{
     for (uint32_t task = 0; task < job->tasks; task++)
         if (faults[task] >> plan->backup[task].node & 1)
             return refuse(COMMON_LOSS, task, task);
@@ -253,6 +261,22 @@ static uint64_t judge_nodes(const struct job *job, const struct layout *plan)
     return 0;
 }
 
+/* Rules A to G in turn. */
+static uint64_t judge_plan(const struct job *job, const struct layout *plan)
+{
+    uint32_t faults[MAX_TASKS];
+    uint64_t refused = judge_tasks(job, plan);
+    if (!refused)
+        refused = judge_primary_inputs(job, plan);
+    if (refused)
+        return refused;
+    find_fault_sets(job, plan, faults);
+    refused = judge_backup_inputs(job, plan, faults);
+    if (!refused)
+        refused = judge_nodes(job, plan, faults);
+    return refused;
+}
+
 static uint64_t judge(struct file job_file, struct file plan_file)
 {
     struct job job;
@@ -261,11 +285,7 @@ static uint64_t judge(struct file job_file, struct file plan_file)
     if (!refused)
         refused = read_plan(plan_file, &job, &plan);
     if (!refused)
-        refused = judge_tasks(&job, &plan);
-    if (!refused)
-        refused = judge_links(&job, &plan);
-    if (!refused)
-        refused = judge_nodes(&job, &plan);
+        refused = judge_plan(&job, &plan);
     return refused;
 }
 

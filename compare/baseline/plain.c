@@ -1,4 +1,4 @@
-/* The plain baseline: document 01 as it reads, over flat arrays, with no tables beside them. */
+/* The plain baseline: the documents as they read, over flat arrays, with no tables beside them. */
 
 #include "common.h"
 
@@ -79,22 +79,34 @@ static int place_primary(struct draft *draft, uint32_t task)
     return find_place(draft, task, ready, 0, ALL_FAULTS, &draft->plan.primary[task]);
 }
 
+/* The fault set of a task whose primary is placed. */
+static uint32_t fault_set(const struct draft *draft, uint32_t task)
+{
+    const struct copy *primary = &draft->plan.primary[task];
+    uint32_t faults = UINT32_C(1) << primary->node;
+    for (uint32_t i = 0; i < draft->job.links; i++) {
+        const struct link *link = &draft->job.link[i];
+        if (link->to == task && !in_time(&draft->plan.backup[link->from], link->delay, primary))
+            faults |= draft->faults[link->from];
+    }
+    return faults;
+}
+
 /* The fault set holds the primary's node, so rule F bars what rule A bars. */
 static int place_backup(struct draft *draft, uint32_t task)
 {
     const struct copy *primary = &draft->plan.primary[task];
     uint32_t ready[MAX_NODES];
-    uint32_t faults = UINT32_C(1) << primary->node;
+    uint32_t faults = fault_set(draft, task);
     for (uint32_t node = 0; node < draft->job.nodes; node++)
         ready[node] = primary->finish + draft->job.detect[primary->node];
     for (uint32_t i = 0; i < draft->job.links; i++) {
         const struct link *link = &draft->job.link[i];
-        if (link->to == task) {
-            wait_for(draft, &draft->plan.primary[link->from], link->delay, ready);
+        if (link->to != task)
+            continue;
+        wait_for(draft, &draft->plan.primary[link->from], link->delay, ready);
+        if (faults & draft->faults[link->from])
             wait_for(draft, &draft->plan.backup[link->from], link->delay, ready);
-            if (!in_time(&draft->plan.backup[link->from], link->delay, primary))
-                faults |= draft->faults[link->from];
-        }
     }
     draft->faults[task] = faults;
     return find_place(draft, task, ready, faults, faults, &draft->plan.backup[task]);

@@ -69,7 +69,7 @@ pub const LIBRARY: Console = Console {
     replay: library::replay,
 };
 
-/// Plain C: document 01 as it reads. The benchmark measures the library by it.
+/// Plain C: the documents as they read. The benchmark measures the library by it.
 pub const PLAIN: Console =
     Console { name: "plain", judge: plain::judge, plan: plain::plan, replay: plain::replay };
 

@@ -9,8 +9,10 @@ struct Style {
     tasks: u64,
     max_run: u64,
     max_detect: u64,
+    min_delay: u64,
     max_delay: u64,
-    /// Chances in a hundred.
+    /// Chances in a hundred. A node that is lame for a task takes longer than all that are not.
+    lame: u64,
     unable: u64,
     linked: u64,
     chained: u64,
@@ -19,7 +21,7 @@ struct Style {
 }
 
 pub fn random_job(random: &mut Random) -> Job {
-    let style = random_style(random);
+    let style = if random.percent(30) { slow_style(random) } else { random_style(random) };
     let tasks = deadlines(random, &style).into_iter();
     let mut job = Job {
         detect: (0..style.nodes).map(|_| random_detect(random, &style)).collect(),
@@ -40,11 +42,31 @@ fn random_style(random: &mut Random) -> Style {
         tasks,
         max_run: random.pick(&[1, 2, 4, 4, 8]),
         max_detect: random.pick(&[0, 1, 1, 3]),
+        min_delay: 0,
         max_delay: random.pick(&[0, 1, 3, 3, 8, 30]),
+        lame: 0,
         unable: random.pick(&[0, 0, 5, 20, 40]),
         linked: if full { 100 } else { random.pick(&[0, 5, 15, 30, 60, 100]) },
         chained: random.pick(&[0, 30, 80]),
         unit: if random.percent(4) { random.pick(&[251, 9_973, 100_000]) } else { 1 },
+    }
+}
+
+/// Slow links between nodes of unlike speed. A primary then often goes where a sender's backup
+/// stands, whose result is long on its way elsewhere: request (i) is about the backup there.
+fn slow_style(random: &mut Random) -> Style {
+    let max_run = random.pick(&[4, 8]);
+    Style {
+        nodes: random.between(3, 6),
+        tasks: random.between(3, 11),
+        max_run,
+        min_delay: max_run,
+        max_delay: 2 * max_run,
+        lame: 30,
+        unable: 5,
+        linked: 30,
+        chained: 80,
+        ..random_style(random)
     }
 }
 
@@ -62,10 +84,15 @@ fn random_detect(random: &mut Random, style: &Style) -> u64 {
     (random.between(0, style.max_detect) * style.unit).min(MAX_DETECT)
 }
 
+fn random_delay(random: &mut Random, style: &Style) -> u64 {
+    (random.between(style.min_delay, style.max_delay) * style.unit).min(MAX_TIME)
+}
+
 fn random_task(random: &mut Random, style: &Style, deadline: u64) -> Task {
     let mut run = || {
+        let lame = if random.percent(style.lame) { 5 * style.max_run } else { 0 };
         let able = !random.percent(style.unable);
-        let run = if able { random.between(1, style.max_run) } else { 0 };
+        let run = if able { lame + random.between(1, style.max_run) } else { 0 };
         (run * style.unit).min(MAX_TIME)
     };
     Task { deadline, run: (0..style.nodes).map(|_| run()).collect() }
@@ -90,7 +117,7 @@ fn random_links(random: &mut Random, style: &Style) -> Vec<Link> {
             let chance =
                 if to == from + 1 { style.linked.max(style.chained) } else { style.linked };
             if random.percent(chance) {
-                let delay = (random.between(0, style.max_delay) * style.unit).min(MAX_TIME);
+                let delay = random_delay(random, style);
                 links.push(Link { from: from as usize, to: to as usize, delay });
             }
         }

@@ -1,7 +1,9 @@
-//! A second implementation of document 01, and what compares the proved library with it.
+//! A second implementation of document 01 and of request (i) of document 02, and what compares the
+//! proved library with it.
 
 pub mod console;
 pub mod damage;
+pub mod earlier;
 pub mod files;
 pub mod foreign;
 pub mod jobs;

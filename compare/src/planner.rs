@@ -2,10 +2,11 @@
 
 use std::collections::BTreeSet;
 
-use crate::files::{Job, Place, Plan, Row};
+use crate::files::{Job, Link, Place, Plan, Row};
 use crate::refusal::{Refusal, NO_BACKUP, NO_PRIMARY};
 use crate::rules::{
-    after_detection, arrival, backup_fed, copy, fault_set, overlap, primary_fed, Copy, Layout,
+    after_detection, arrival, backup_fed, copy, fault_set, overlap, primary_fed, Copy, FaultSet,
+    Layout,
 };
 
 /// A plan in the making. The next task is the first that has no backup yet.
@@ -13,7 +14,7 @@ pub struct Draft<'a> {
     pub job: &'a Job,
     pub layout: Layout,
     /// One for each primary placed: a task's fault set is settled by its primary.
-    pub fault_sets: Vec<BTreeSet<usize>>,
+    pub fault_sets: Vec<FaultSet>,
 }
 
 pub fn plan(job: &Job) -> Result<Plan, Refusal> {
@@ -71,12 +72,13 @@ impl<'a> Draft<'a> {
         let task = self.task();
         let primary = &self.layout.primaries[task];
         let fault_set = &self.fault_sets[task];
+        let fed = |link: &Link| backup_fed(&self.layout, &self.fault_sets, link, backup);
         let shares = |other: usize| fault_set.is_disjoint(&self.fault_sets[other]);
         let mut backups = self.layout.backups.iter().enumerate();
         backup.node != primary.node
             && after_detection(self.job, primary, backup)
             && backup.finish <= self.job.tasks[task].deadline
-            && self.job.links_into(task).all(|link| backup_fed(&self.layout, link, backup))
+            && self.job.links_into(task).all(fed)
             && !fault_set.contains(&backup.node)
             && !self.layout.primaries.iter().any(|other| overlap(other, backup))
             && !backups.any(|(other, copy)| overlap(copy, backup) && !shares(other))
@@ -87,7 +89,8 @@ impl<'a> Draft<'a> {
     // s keeps. B, D and E each say that the start is not below some moment, so if one of them is
     // broken, s is that moment. If G is broken, some copy on the node holds the tick s - 1 but
     // not s, so it finishes at s. A and F do not ask for the start, and an earlier finish keeps
-    // the deadline. So 0, those moments and those finishes are all the starts to try.
+    // the deadline. So 0, those moments and those finishes are all the starts to try; a moment
+    // that no rule asks for, as that of a backup not waited for, is tried in vain.
 
     /// The starts to try for the primary on a node, rising.
     pub fn primary_starts(&self, node: usize) -> BTreeSet<u64> {
@@ -149,8 +152,10 @@ impl<'a> Draft<'a> {
 #[cfg(test)]
 mod tests {
     use super::*;
+    use crate::earlier::keeps_rule_e_of_01;
     use crate::jobs::random_job;
     use crate::random::Random;
+    use crate::rules::in_time;
 
     /// The planner as document 01 words it: of all nodes and starts.
     fn plan_by_all_starts(job: &Job) -> Result<Plan, Refusal> {
@@ -180,5 +185,37 @@ mod tests {
             assert_eq!(answer, plan_by_all_starts(&job));
         }
         assert!(planned > 300, "only {planned} jobs were planned");
+    }
+
+    fn plan_by_rule_e_of_01(job: &Job) -> Result<Plan, Refusal> {
+        let mut draft = Draft::new(job);
+        for task in 0..job.tasks.len() {
+            let primary = draft.earliest_primary().ok_or(Refusal::of_task(NO_PRIMARY, task))?;
+            draft.place_primary(primary);
+            let waits = |backup: &Copy| {
+                let mut links = job.links_into(task);
+                links.all(|link| in_time(link, &draft.layout.backups[link.from], backup))
+            };
+            let fits = |backup: &Copy| draft.backup_fits(backup) && waits(backup);
+            let backup = draft.earliest(|node| draft.backup_starts(node), fits);
+            draft.place_backup(backup.ok_or(Refusal::of_task(NO_BACKUP, task))?);
+        }
+        Ok(draft.plan())
+    }
+
+    #[test]
+    fn just_the_plans_that_break_the_earlier_rule_are_moved() {
+        let random = &mut Random::new(6);
+        let mut moved = 0;
+        for _ in 0..1500 {
+            let job = random_job(random);
+            let Ok(answer) = plan(&job) else {
+                continue;
+            };
+            let stays = keeps_rule_e_of_01(&job, &answer);
+            moved += u64::from(!stays);
+            assert_eq!(stays, plan_by_rule_e_of_01(&job) == Ok(answer));
+        }
+        assert!(moved > 30, "only {moved} plans were moved");
     }
 }

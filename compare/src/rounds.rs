@@ -4,6 +4,7 @@ use std::collections::BTreeSet;
 
 use crate::console::{plan_bytes, replay_bytes};
 use crate::damage::{damaged, disordered};
+use crate::earlier::keeps_rule_e_of_01;
 use crate::files::{read_job, read_plan, write_job, write_plan, Job, Plan, NODES, TASKS};
 use crate::jobs::random_job;
 use crate::plans::{changed_plan, passing_plan, wild_plan};
@@ -114,7 +115,7 @@ fn try_planner(
     trial: &mut Trial,
     random: &mut Random,
     given: &Given,
-) -> Result<Option<Vec<u8>>, Mismatch> {
+) -> Result<Option<Plan>, Mismatch> {
     let room = given.plan_room();
     if random.percent(4) && given.job.tasks.len() <= 16 {
         for room in 0..=room + 17 {
@@ -122,15 +123,17 @@ fn try_planner(
         }
     }
     trial.compare(&given.plan(some_room(random, room)))?;
-    let code = trial.compare(&given.plan(room))?;
-    let planned = (code == 0).then(|| trial.written().to_vec());
-    if let Some(plan) = &planned {
-        let call = given.judge(plan);
-        if trial.compare(&call)? != 0 {
-            return Err(Mismatch::new(&call, "refused the planner's own plan".into()));
-        }
+    if trial.compare(&given.plan(room))? != 0 {
+        return Ok(None);
     }
-    Ok(planned)
+    let bytes = trial.written().to_vec();
+    let call = given.judge(&bytes);
+    if trial.compare(&call)? != 0 {
+        return Err(Mismatch::new(&call, "refused the planner's own plan".into()));
+    }
+    let plan = read_plan(&given.job, &bytes).expect("a passed plan reads well");
+    trial.tally.planned_newly += u64::from(!keeps_rule_e_of_01(&given.job, &plan));
+    Ok(Some(plan))
 }
 
 /// A buffer length near the one needed, or far too small.
@@ -144,8 +147,7 @@ fn some_room(random: &mut Random, needed: usize) -> usize {
 }
 
 /// The planner's plan and others that keep the rules.
-fn good_plans(random: &mut Random, job: &Job, planned: Option<Vec<u8>>) -> Vec<Plan> {
-    let planned = planned.and_then(|bytes| read_plan(job, &bytes).ok());
+fn good_plans(random: &mut Random, job: &Job, planned: Option<Plan>) -> Vec<Plan> {
     let mut good: Vec<Plan> = planned.into_iter().collect();
     for _ in 0..2 {
         let another = passing_plan(random, job).filter(|plan| !good.contains(plan));
@@ -217,6 +219,7 @@ fn try_plan(
         let weak_path = longest_weak_path(&given.job, &layout(&given.job, &plan));
         trial.tally.passed_deep += u64::from(weak_path >= 2);
         trial.tally.passed_large += u64::from(plan.rows.len() >= 32);
+        trial.tally.passed_newly += u64::from(!keeps_rule_e_of_01(&given.job, &plan));
         try_survival(trial, random, given, bytes, &survival)?;
     }
     Ok(())

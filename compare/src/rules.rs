@@ -61,10 +61,12 @@ pub fn primary_fed(layout: &Layout, link: &Link, primary: &Copy) -> bool {
     in_time(link, &layout.primaries[link.from], primary)
 }
 
-/// Rule E for one link, with the receiving backup given.
-pub fn backup_fed(layout: &Layout, link: &Link, backup: &Copy) -> bool {
+/// Rule E for one link, with the receiving backup given. It waits for the sender's backup only
+/// where one loss may call for both (request (i)).
+pub fn backup_fed(layout: &Layout, sets: &[FaultSet], link: &Link, backup: &Copy) -> bool {
     in_time(link, &layout.primaries[link.from], backup)
-        && in_time(link, &layout.backups[link.from], backup)
+        && (sets[link.from].is_disjoint(&sets[link.to])
+            || in_time(link, &layout.backups[link.from], backup))
 }
 
 /// A link is weak if the sender's backup may come too late for the receiver's primary.
@@ -72,9 +74,11 @@ pub fn is_weak(layout: &Layout, link: &Link) -> bool {
     !in_time(link, &layout.backups[link.from], &layout.primaries[link.to])
 }
 
-/// The fault set of a task (document 01's peril): the nodes whose loss may keep its primary
-/// from finishing. It asks only for the copies of lower tasks and the task's own primary.
-pub fn fault_set(job: &Job, layout: &Layout, task: usize) -> BTreeSet<usize> {
+/// The nodes whose loss may keep a task's primary from finishing (document 01's peril).
+pub type FaultSet = BTreeSet<usize>;
+
+/// A task's fault set. It asks only for the copies of lower tasks and the task's own primary.
+pub fn fault_set(job: &Job, layout: &Layout, task: usize) -> FaultSet {
     let mut reached = BTreeSet::from([task]);
     let mut open = vec![task];
     while let Some(receiver) = open.pop() {
@@ -113,15 +117,15 @@ pub fn judge(job: &Job, plan: &Plan) -> Result<(), Refusal> {
     every_task(EARLY, &|task| after_detection(job, &primaries[task], &backups[task]))?;
     every_task(LATE, &|task| backups[task].finish <= job.tasks[task].deadline)?;
     every_link(PRIMARY_UNFED, &|link| primary_fed(&placed, link, &primaries[link.to]))?;
-    every_link(BACKUP_UNFED, &|link| backup_fed(&placed, link, &backups[link.to]))?;
     let fault_sets: Vec<_> = tasks.clone().map(|task| fault_set(job, &placed, task)).collect();
+    every_link(BACKUP_UNFED, &|link| backup_fed(&placed, &fault_sets, link, &backups[link.to]))?;
     every_task(COMMON_LOSS, &|task| !fault_sets[task].contains(&backups[task].node))?;
     no_overlap(&placed, &fault_sets)
 }
 
 /// Rule G. Once rule A holds, a task's own two copies are on different nodes, so that pairs of
 /// different tasks are all there is to try.
-fn no_overlap(layout: &Layout, fault_sets: &[BTreeSet<usize>]) -> Result<(), Refusal> {
+fn no_overlap(layout: &Layout, fault_sets: &[FaultSet]) -> Result<(), Refusal> {
     for lower in 0..fault_sets.len() {
         for higher in lower + 1..fault_sets.len() {
             if tasks_clash(layout, fault_sets, lower, higher) {
@@ -132,10 +136,84 @@ fn no_overlap(layout: &Layout, fault_sets: &[BTreeSet<usize>]) -> Result<(), Ref
     Ok(())
 }
 
-fn tasks_clash(layout: &Layout, fault_sets: &[BTreeSet<usize>], a: usize, b: usize) -> bool {
+fn tasks_clash(layout: &Layout, fault_sets: &[FaultSet], a: usize, b: usize) -> bool {
     let Layout { primaries, backups } = layout;
     overlap(&primaries[a], &primaries[b])
         || overlap(&primaries[a], &backups[b])
         || overlap(&backups[a], &primaries[b])
         || overlap(&backups[a], &backups[b]) && !fault_sets[a].is_disjoint(&fault_sets[b])
+}
+
+#[cfg(test)]
+mod tests {
+    use super::*;
+    use crate::earlier::keeps_rule_e_of_01;
+    use crate::files::Task;
+    use crate::replay::{replay, Loss};
+    use crate::samples::{plan_of, Listed};
+
+    /// Five nodes with detect 0; each task takes one time on all of them.
+    fn job_of(runs: &[u64], links: &[(usize, usize, u64)]) -> Job {
+        let links = links.iter().map(|&(from, to, delay)| Link { from, to, delay });
+        let tasks = runs.iter().map(|&run| Task { deadline: 100, run: vec![run; 5] });
+        Job { detect: vec![0; 5], tasks: tasks.collect(), links: links.collect() }
+    }
+
+    /// Demand 3, as far as every task has to be finished.
+    fn outlives_any_loss(job: &Job, plan: &Plan) -> bool {
+        let mut losses = (0..5).flat_map(|node| (0..50).map(move |moment| Loss { node, moment }));
+        losses.all(|loss| replay(job, plan, Some(loss)).iter().all(|task| task.finish > 0))
+    }
+
+    fn assert_passed(job: &Job, plan: &Plan) {
+        assert_eq!(judge(job, plan), Ok(()));
+        assert!(outlives_any_loss(job, plan));
+    }
+
+    fn assert_unfed(job: &Job, plan: &Plan, from: usize, to: usize) {
+        assert_eq!(judge(job, plan), Err(Refusal::of_tasks(BACKUP_UNFED, from, to)));
+        assert!(!outlives_any_loss(job, plan));
+    }
+
+    // In the plans below the last task's primary stands where its last sender's backup stood, so
+    // that link is strong; the backup's result reaches node 3 at 24.
+
+    /// Tasks 0 and 1 send to task 2, task 0 over a weak link.
+    fn three_tasks(node: u64, start: u64) -> Plan {
+        let sender: Listed = [node, 4, 2, 10];
+        plan_of([[0, 0, 1, 4], sender, [2, 18, 3, start]])
+    }
+
+    #[test]
+    fn a_backup_does_not_wait_where_fault_sets_are_apart() {
+        let job = job_of(&[4, 4, 1], &[(0, 2, 14), (1, 2, 10)]);
+        assert_passed(&job, &three_tasks(4, 22));
+        assert!(!keeps_rule_e_of_01(&job, &three_tasks(4, 22)));
+        assert_unfed(&job, &three_tasks(4, 21), 0, 2);
+    }
+
+    #[test]
+    fn a_strong_link_waits_where_fault_sets_meet() {
+        // The primary of task 1 is on the node of the primary of task 0.
+        let job = job_of(&[4, 4, 1], &[(0, 2, 14), (1, 2, 10)]);
+        assert_unfed(&job, &three_tasks(0, 23), 1, 2);
+        assert_passed(&job, &three_tasks(0, 24));
+    }
+
+    #[test]
+    fn fault_sets_may_meet_beside_both_primaries() {
+        // What is common to both is the node of task 0.
+        let job = job_of(&[4, 4, 1], &[(0, 1, 0), (0, 2, 14), (1, 2, 10)]);
+        assert_unfed(&job, &three_tasks(4, 23), 1, 2);
+        assert_passed(&job, &three_tasks(4, 24));
+    }
+
+    #[test]
+    fn fault_sets_may_meet_by_two_weak_links() {
+        // Tasks 0 to 1 to 3 over weak links; the primary of task 2 is on the node of task 0.
+        let job = job_of(&[4, 4, 4, 1], &[(0, 1, 0), (1, 3, 10), (2, 3, 10)]);
+        let plan = |start| plan_of([[0, 0, 1, 4], [4, 4, 1, 8], [0, 4, 2, 10], [2, 18, 3, start]]);
+        assert_unfed(&job, &plan(23), 2, 3);
+        assert_passed(&job, &plan(24));
+    }
 }

@@ -53,6 +53,9 @@ impl Mismatch {
     }
 }
 
+pub const PASSED_NEWLY: &str = "passed plans that rule E of document 01 refused";
+pub const PLANNED_NEWLY: &str = "planned jobs whose plan rule E of document 01 would move";
+
 /// How often each outcome was met, so that a run that tries little is seen to do so.
 #[derive(Default)]
 pub struct Tally {
@@ -63,6 +66,9 @@ pub struct Tally {
     pub passed_deep: u64,
     /// Passed plans of 32 tasks or more.
     pub passed_large: u64,
+    /// What request (i) changed, by the names above.
+    pub passed_newly: u64,
+    pub planned_newly: u64,
     /// Runs of passed plans held to demand 3, and the plans for which every tick was tried.
     pub survived: u64,
     pub every_tick: u64,
@@ -97,6 +103,8 @@ impl fmt::Display for Tally {
         writeln!(f, "  with a path of two weak links or more: {}", self.passed_deep)?;
         writeln!(f, "  of 32 tasks or more: {}", self.passed_large)?;
         writeln!(f, "  with every node lost at every tick: {}", self.every_tick)?;
+        writeln!(f, "{PASSED_NEWLY}: {}", self.passed_newly)?;
+        writeln!(f, "{PLANNED_NEWLY}: {}", self.planned_newly)?;
         write!(f, "runs of passed plans held to demand 3: {}", self.survived)
     }
 }

@@ -14,12 +14,12 @@ use Rattle.reader.specs.declared.job.Job.{Job}
 use Rattle.reader.specs.Limits.{maxNodes}
 use Rattle.reader.specs.Entries.{nodes}
 use Rattle.reader.specs.Tests.{_and_}
-use Rattle.reader.specs.First.{every, any}
+use Rattle.reader.specs.First.{every}
 use Rattle.reader.proofs.TestLaws.{split, clash, below-suc, and-i, and-l, and-r, not-i, not-e, same-test}
 use Rattle.reader.proofs.FirstLaws.{every-i, every-e, every-same}
 use Rattle.rules.specs.declared.Copy.{Copy}
 use Rattle.rules.specs.Copies.{overlap}
-use Rattle.rules.specs.Rules.{Row, shareFault, ruleGPrimary, ruleGBackup}
+use Rattle.rules.specs.Rules.{Row, ruleGPrimary, ruleGBackup}
 use Rattle.copies.specs.declared.table.Copies.{Copies}
 use Rattle.copies.specs.Sets.{has, meets, everyNode}
 use Rattle.copies.specs.Table.{nodeAt, entry, setAt, rowOf, Held}
@@ -27,7 +27,8 @@ use Rattle.copies.specs.Chain.{lastOf, Chain}
 use Rattle.copies.specs.Clash.{clashes, free, Hits, untilOf, lateOf, boundOf, latest}
 use Rattle.reader.proofs.TestLaws.{and-yes, and-no}
 use Rattle.copies.proofs.ChainLaws.{last-most, last-gap, chain-before, chain-down, chain-next}
-use Rattle.copies.proofs.SetLaws.{meets-i, meets-any, has-every}
+use Rattle.copies.proofs.SetLaws.{meets-i, has-every}
+use Rattle.copies.proofs.TableLaws.{share-is}
 
 -- what is later than s
 module _ (s : ℕ) where
@@ -275,12 +276,6 @@ module _ (job : Job) (cs : Copies) (j : ℕ) (few : nodes job ≤ maxNodes) (hel
 
   -- of a backup, whose fault set holds `own`
   module _ (m own : ℕ) (s : Row) (b : s .backup ≡ c) (is : has m ≡ s .faults) (at : own < nodes job) (here : has m own ≡ true) where
-    share-is : (i : ℕ) → i < j → meets (setAt cs (2 * i + 1)) m ≡ shareFault job (rowOf cs i) s
-    unfolding shareFault rowOf
-    share-is i p =
-        subst (λ f. meets (setAt cs (2 * i + 1)) m ≡ any (nodes job) (λ q. has (setAt cs (2 * i + 1)) q and f q)) is
-        (meets-any (nodes job) (setAt cs (2 * i + 1)) m (λ q. held .within i q p))
-
     pub free-backup : free cs m c (2 * j) ≡ every j (λ i. ruleGBackup job (rowOf cs i) s)
     unfolding free ruleGBackup rowOf
     free-backup =
@@ -289,4 +284,4 @@ module _ (job : Job) (cs : Copies) (j : ℕ) (few : nodes job ≤ maxNodes) (hel
         (meets-only m (2 * i) (omega arith) (rw (held .primary-set i p) (meets-i everyNode m own (has-every own (omega arith)) here))
         ∙ ap (overlap (entry cs (2 * i))) (sym b))
         (clashes-is m c (entry cs (2 * i + 1)) (setAt cs (2 * i + 1)) (held .lasts (2 * i + 1) (omega arith)) lasts
-        ∙ ap₂ (λ x y. x and y) (ap (overlap (entry cs (2 * i + 1))) (sym b)) (share-is i p))
+        ∙ ap₂ (λ x y. x and y) (ap (overlap (entry cs (2 * i + 1))) (sym b)) (share-is job cs j held m s is i p))

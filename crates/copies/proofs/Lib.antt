@@ -1,6 +1,6 @@
 pub mod ListMore
 pub mod SetLaws
-pub mod ArrivalLaws
 pub mod TableLaws
+pub mod ArrivalLaws
 pub mod ChainLaws
 pub mod ClashLaws

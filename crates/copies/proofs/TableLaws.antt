@@ -1,16 +1,21 @@
--- Laws of the table: what is stored, and the rows of the empty table.
+-- Laws of the table: what is stored, the rows of the empty table, and fault sets with a common member.
 use Prim.Native.Nat.{ℕ, _+_, _*_, _<_}
 use mathlib.Core.Bool.{Bool}
-use mathlib.Core.Path.{_≡_, _∙_, ap, fun-ext}
+use mathlib.Core.Path.{_≡_, _∙_, ap, fun-ext, subst}
 use lib.ListN.{set, length-set}
 use lib.Seq.{getD-set-same, getD-set-other}
 use native.Mathlib.Omega.{arith}
+use Rattle.reader.specs.declared.job.Job.{Job}
+use Rattle.reader.specs.Tests.{_and_}
+use Rattle.reader.specs.First.{any}
+use Rattle.reader.specs.Entries.{nodes}
 use Rattle.rules.specs.declared.Copy.{Copy}
-use Rattle.rules.specs.Rules.{Row, blankRow}
+use Rattle.rules.specs.Rules.{Row, blankRow, shareFault}
 use Rattle.copies.specs.declared.table.Copies.{Copies}
-use Rattle.copies.specs.Table.{copyCount, rowOf, table, emptyCopies, Whole, Stored}
+use Rattle.copies.specs.Sets.{has, meets}
+use Rattle.copies.specs.Table.{copyCount, setAt, rowOf, table, emptyCopies, Whole, Stored, Held}
 use Rattle.copies.proofs.ListMore.{replicated}
-use Rattle.copies.proofs.SetLaws.{has-none}
+use Rattle.copies.proofs.SetLaws.{has-none, meets-any}
 
 pub same-copy : (a b c x y z : ℕ) → a ≡ x → b ≡ y → c ≡ z
     → _≡_ {A = Copy} (record { node = a; start = b; finish = c }) (record { node = x; start = y; finish = z })
@@ -59,3 +64,11 @@ empty-rows =
   where
     blank : Copy
     blank = record { node = 0; start = 0; finish = 0 }
+
+-- the set of task i meets m exactly if its fault set and that of s, which is m, have a common member
+pub share-is : (job : Job) (cs : Copies) (n : ℕ) → Held job n cs → (m : ℕ) (s : Row) → has m ≡ s .faults
+    → (i : ℕ) → i < n → meets (setAt cs (2 * i + 1)) m ≡ shareFault job (rowOf cs i) s
+unfolding shareFault rowOf
+share-is job cs n held m s is i p =
+    subst (λ f. meets (setAt cs (2 * i + 1)) m ≡ any (nodes job) (λ q. has (setAt cs (2 * i + 1)) q and f q)) is
+    (meets-any (nodes job) (setAt cs (2 * i + 1)) m (λ q. held .within i q p))

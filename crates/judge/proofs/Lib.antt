@@ -1,9 +1,10 @@
 pub mod NoteLaws
 pub mod ScanLaws
+pub mod SetMore
 pub mod PartLaws
 pub mod TaskLaws
 pub mod LinkLaws
-pub mod SetMore
+pub mod BackupLaws
 pub mod GatherLaws
 pub mod OverlapLaws
 pub mod PlanLaws

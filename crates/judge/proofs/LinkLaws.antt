@@ -1,8 +1,10 @@
--- Laws of the pass over the links: one weak link more, and the rules of links at each.
+-- Laws of the pass over the links: one weak link more, D at each, and which are sure.
 use Prim.Native.Nat.{ℕ, _+_, _*_, _^_, _≤_, _<_}
 use mathlib.Core.Bool.{Bool, true, false, cond}
 use mathlib.Core.List.{List}
 use mathlib.Core.Path.{_≡_, refl, sym, _∙_, ap, ap₂, subst}
+use native.Mathlib.Decide.{decLt}
+use native.Mathlib.Nat.{not-suc-le-zero}
 use native.Mathlib.Omega.{arith}
 use lib.Bits.{bitOr}
 use lib.Dec.{eqb}
@@ -12,10 +14,10 @@ use borrow.Author.Tests.{eqb-true, eqb-false, eq-eqb}
 use Rattle.reader.specs.declared.job.Job.{Job}
 use Rattle.reader.specs.declared.job.Link.{Link}
 use Rattle.reader.specs.declared.refusal.Refusal.{Refusal}
-use Rattle.reader.specs.declared.refusal.Refusal.the-variants.{PrimaryUnfed, BackupUnfed}
+use Rattle.reader.specs.declared.refusal.Refusal.the-variants.{PrimaryUnfed}
 use Rattle.reader.specs.declared.refusal.Answer.{Answer}
 use Rattle.reader.specs.Tests.{_and_, _or_}
-use Rattle.reader.specs.First.{_or-else_, any}
+use Rattle.reader.specs.First.{any}
 use Rattle.reader.specs.Limits.{maxTasks, maxLinks}
 use Rattle.reader.specs.Entries.{links, link, noLink}
 use Rattle.reader.specs.Refusals.{answered}
@@ -23,19 +25,21 @@ use Rattle.reader.proofs.TestLaws.{split, or-none}
 use Rattle.reader.proofs.FirstLaws.{any-start, any-more}
 use Rattle.rules.specs.declared.Copy.{Copy}
 use Rattle.rules.specs.Copies.{inTime}
-use Rattle.rules.specs.Rules.{Row, strong, ruleD, ruleE}
+use Rattle.rules.specs.Rules.{Row, strong, ruleD}
+use Rattle.rules.specs.Waits.{waitsForBoth}
 use Rattle.rules.specs.Judge.{firstLink}
 use Rattle.copies.specs.declared.table.Copies.{Copies}
 use Rattle.copies.specs.Sets.{has}
-use Rattle.copies.specs.Arrival.{SumFits, inTimeOf}
+use Rattle.copies.specs.Arrival.{SumFits, comes}
 use Rattle.copies.specs.Table.{entry, rowOf}
 use Rattle.copies.proofs.ArrivalLaws.{in-time-is}
 use Rattle.copies.proofs.ListMore.{replicated}
 use Rattle.copies.proofs.SetLaws.{has-union, has-one, has-none}
 use Rattle.judge.specs.Notes.{nowhere, firstBroken, notedOf, seen}
 use Rattle.judge.specs.Parts.{byLinks}
-use Rattle.judge.specs.Links.{Timed, weakLink, WeakTo, LinksJudged}
-use Rattle.judge.proofs.NoteLaws.{note-start, note-more, note-both, note-below, note-seen}
+use Rattle.judge.specs.Links.{Timed, weakLink, WeakTo, sure, SureBut, LinksJudged}
+use Rattle.judge.proofs.NoteLaws.{note-start, note-more, note-below, note-seen}
+use Rattle.judge.proofs.SetMore.{joins-unless, stays}
 
 -- link k by its cases
 module _ (job : Job) (t : ℕ → Row) (k : ℕ) where
@@ -88,29 +92,26 @@ module _ (job : Job) (t : ℕ → Row) (k : ℕ) where
           ap (λ x. has x i) (getD-set-same into to new 0 room) ∙ has-union (getD into to 0) bit i
           ∙ ap₂ _or_ (h to i (omega (arith, low, e))) (weak-bit i to s bit (eq-eqb to to refl) es eb)
 
--- the rules of links on the table's entries
+-- D on the table's entries
 abbrev keepsD : Job → Copies → ℕ → Bool
 keepsD job cs k = ruleD job (link job k) (rowOf cs (link job k .from)) (rowOf cs (link job k .to) .primary)
 
-abbrev keepsE : Job → Copies → ℕ → Bool
-keepsE job cs k = ruleE job (link job k) (rowOf cs (link job k .from)) (rowOf cs (link job k .to))
-
 -- after the first k links
-pub record Walking (job : Job) (cs : Copies) (k : ℕ) (into : List ℕ) (primary backup : ℕ) : Type 0 where
+pub record Walking (job : Job) (cs : Copies) (k : ℕ) (into : List ℕ) (primary unsure : ℕ) : Type 0 where
   pub within : k ≤ links job
   pub size : length into ≡ maxTasks
   pub weak : WeakTo job (rowOf cs) k into
   pub d : primary ≡ firstBroken k (keepsD job cs)
-  pub e : backup ≡ firstBroken k (keepsE job cs)
+  pub e : SureBut job (rowOf cs) k unsure
 
-pub walk-start : (job : Job) (cs : Copies) (into : List ℕ) → into ≡ replicate maxTasks 0 → Walking job cs 0 into nowhere nowhere
+pub walk-start : (job : Job) (cs : Copies) (into : List ℕ) → into ≡ replicate maxTasks 0 → Walking job cs 0 into nowhere 0
 walk-start job cs into zeros =
     record {
       within = omega arith;
       size = rw zeros (length-replicate {A = ℕ} maxTasks 0);
       weak = λ j i low. rw (zeros, replicated {A = ℕ} 0 maxTasks j, has-none i, any-start);
       d = note-start _;
-      e = note-start _;
+      e = λ m p. absurd (not-suc-le-zero p);
     }
 
 -- the sender's finishes at link k, which leads from task i
@@ -125,7 +126,7 @@ module _ (list : List Link) (n : ℕ) (cs : Copies) (timed : Timed list n cs) (k
 module _ (job : Job) (cs : Copies) (timed : Timed (job .links) (links job) cs) (k : ℕ) (low : k < links job)
     (i j : ℕ) (ei : i ≡ link job k .from) (ej : j ≡ link job k .to) where
   abbrev arrived : Copy → Copy → Bool
-  arrived c d = inTimeOf (link job k .delay) (c .node) (c .finish) (d .node) (d .start)
+  arrived = comes (link job k .delay)
 
   -- between entries m i and n j
   arrival : (m n : ℕ → ℕ) (c d : Copy) (r : Bool) → c ≡ entry cs (m i) → d ≡ entry cs (n j) → r ≡ arrived c d
@@ -134,13 +135,13 @@ module _ (job : Job) (cs : Copies) (timed : Timed (job .links) (links job) cs) (
       er ∙ in-time-is job (link job k) c d
       ∙ ap₂ (inTime job (link job k)) (ec ∙ ap (λ x. entry cs (m x)) ei) (ed ∙ ap (λ x. entry cs (n x)) ej)
 
-  pub walk-more : (into : List ℕ) (primary backup : ℕ) → Walking job cs k into primary backup
+  pub walk-more : (into : List ℕ) (primary unsure : ℕ) → Walking job cs k into primary unsure
       → (p b q c : Copy) → p ≡ entry cs (2 * i) → b ≡ entry cs (2 * i + 1) → q ≡ entry cs (2 * j) → c ≡ entry cs (2 * j + 1)
       → (x y z s : Bool) → x ≡ arrived p q → y ≡ arrived p c → z ≡ arrived b c → s ≡ arrived b q
-      → (u v w bit : ℕ) → u ≡ notedOf primary k x → v ≡ notedOf backup k y → w ≡ notedOf v k z → bit ≡ cond s 0 (2 ^ i)
-      → Walking job cs (k + 1) (set into j (bitOr (getD into j 0) bit)) u w
-  unfolding rowOf ruleD ruleE strong
-  walk-more into primary backup h p b q c ep eb eq ec x y z s ex ey ez es u v w bit eu ev ew ebit =
+      → (u v w bit : ℕ) → u ≡ notedOf primary k x → v ≡ cond y 0 (2 ^ i) → w ≡ cond z 0 (2 ^ i) → bit ≡ cond s 0 (2 ^ i)
+      → Walking job cs (k + 1) (set into j (bitOr (getD into j 0) bit)) u (bitOr (bitOr unsure v) w)
+  unfolding rowOf ruleD waitsForBoth strong
+  walk-more into primary unsure h p b q c ep eb eq ec x y z s ex ey ez es u v w bit eu ev ew ebit =
       let small : k < nowhere = omega (arith, timed .few) in
       record {
         within = omega arith;
@@ -150,35 +151,36 @@ module _ (job : Job) (cs : Copies) (timed : Timed (job .links) (links job) cs) (
             (weak-more job (rowOf cs) k into (h .weak) s bit (arrival (λ m. 2 * m + 1) (λ m. 2 * m) b q s eb eq es)
             (ebit ∙ ap (λ m. cond s 0 (2 ^ m)) ei) (omega (arith, timed .to k low, h .size)));
         d = note-more (keepsD job cs) k primary u x small (h .d) (arrival (λ m. 2 * m) (λ m. 2 * m) p q x ep eq ex) eu;
-        e = note-more (keepsE job cs) k backup w _ small (h .e)
-            (ap₂ _and_ (arrival (λ m. 2 * m) (λ m. 2 * m + 1) p c y ep ec ey) (arrival (λ m. 2 * m + 1) (λ m. 2 * m + 1) b c z eb ec ez))
-            (note-both backup k v w y z ev ew);
+        e = λ m p f. elim (decLt m k) [
+          | yes below ↦ stays y z unsure v w i ev ew _ (h .e m below f)
+          | no above ↦
+              let here : m ≡ k = omega arith in
+              rw here (subst (λ n. has (bitOr (bitOr unsure v) w) n ≡ true) ei
+              (joins-unless y z unsure v w i ev ew (both ∙ subst (λ n. sure job (rowOf cs) n ≡ false) here f)))
+        ];
       }
+    where
+      both : (y and z) ≡ sure job (rowOf cs) k
+      both = ap₂ _and_ (arrival (λ m. 2 * m) (λ m. 2 * m + 1) p c y ep ec ey) (arrival (λ m. 2 * m + 1) (λ m. 2 * m + 1) b c z eb ec ez)
 
 -- after all links
 abbrev pub linkRefusal : Job → (ℕ → ℕ → Refusal) → ℕ → Refusal
 linkRefusal job refusal k = refusal (link job k .from) (link job k .to)
 
-module _ (job : Job) (cs : Copies) (timed : Timed (job .links) (links job) cs) (k : ℕ) (into : List ℕ) (primary backup : ℕ)
-    (h : Walking job cs k into primary backup) (end : links job ≤ k) where
-  all : Walking job cs (links job) into primary backup
-  all = let d : k ≡ links job = omega (arith, h .within) in subst (λ n. Walking job cs n into primary backup) d h
+module _ (job : Job) (cs : Copies) (timed : Timed (job .links) (links job) cs) (k : ℕ) (into : List ℕ) (primary unsure : ℕ)
+    (h : Walking job cs k into primary unsure) (end : links job ≤ k) where
+  all : Walking job cs (links job) into primary unsure
+  all = let d : k ≡ links job = omega (arith, h .within) in subst (λ n. Walking job cs n into primary unsure) d h
 
   pub primary-index : (primary ≡ nowhere → ⊥) → primary < maxLinks
   primary-index h = omega (arith, timed .few, note-below (keepsD job cs) (links job) primary (timed .few) (all .d) h)
 
-  pub backup-index : (backup ≡ nowhere → ⊥) → backup < maxLinks
-  backup-index h = omega (arith, timed .few, note-below (keepsE job cs) (links job) backup (timed .few) (all .e) h)
-
-  pub walk-done : (v : Answer) → v ≡ answered (seen (linkRefusal job PrimaryUnfed) primary or-else seen (linkRefusal job BackupUnfed) backup)
-      → LinksJudged job cs into v
+  pub walk-done : (v : Answer) → v ≡ answered (seen (linkRefusal job PrimaryUnfed) primary)
+      → LinksJudged job cs into (record { answer = v; unsure = unsure })
   unfolding byLinks firstLink
   walk-done v e =
       record {
         weak = all .weak;
-        answer =
-            e ∙ ap answered
-            (ap₂ _or-else_
-            (note-seen (keepsD job cs) (links job) primary (timed .few) (all .d) (linkRefusal job PrimaryUnfed))
-            (note-seen (keepsE job cs) (links job) backup (timed .few) (all .e) (linkRefusal job BackupUnfed)));
+        answer = e ∙ ap answered (note-seen (keepsD job cs) (links job) primary (timed .few) (all .d) (linkRefusal job PrimaryUnfed));
+        unsure = all .e;
       }

@@ -19,7 +19,7 @@ use Rattle.reader.proofs.TestLaws.{split, and-i, and-l, and-r, imp-i, imp-fails
 use Rattle.reader.proofs.FirstLaws.{first-none, first-same, none-unless, every-e, every-more, every-start}
 use Rattle.rules.specs.declared.Copy.{Copy}
 use Rattle.rules.specs.Copies.{overlap}
-use Rattle.rules.specs.Rules.{shareFault, ruleG, ruleGPrimary, ruleGBackup}
+use Rattle.rules.specs.Rules.{ruleG, ruleGPrimary, ruleGBackup}
 use Rattle.rules.specs.Judge.{firstPair}
 use Rattle.copies.specs.declared.table.Copies.{Copies}
 use Rattle.copies.specs.Sets.{has, meets, everyNode}
@@ -27,8 +27,9 @@ use Rattle.copies.specs.Table.{copyCount, nodeAt, entry, setAt, rowOf, Held}
 use Rattle.copies.specs.Chain.{Chain, Chained, Joins}
 use Rattle.copies.specs.Clash.{clashes, free, boundOf}
 use Rattle.reader.proofs.TestLaws.{and-yes, and-join}
-use Rattle.copies.proofs.SetLaws.{has-every, meets-i, meets-any}
+use Rattle.copies.proofs.SetLaws.{has-every, meets-i}
 use Rattle.copies.proofs.ListMore.{replicated}
+use Rattle.copies.proofs.TableLaws.{share-is}
 use Rattle.copies.proofs.ChainLaws.{chain-of, chain-within, chained-start, chained-pair}
 use Rattle.copies.proofs.ClashLaws.{free-last, clash-ends, clashes-is}
 use Rattle.judge.specs.Faults.{Low}
@@ -152,10 +153,6 @@ module _ (job : Job) (cs : Copies) (few : nodes job ≤ maxNodes) (held : Held j
   on-rack : (i : ℕ) → i < tasks job → has everyNode (entry cs (2 * i) .node) ≡ true
   on-rack i p = has-every _ (omega (arith, held .node (2 * i) (omega arith)))
 
-  share-is : (i j : ℕ) → i < tasks job → meets (setAt cs (2 * i + 1)) (setAt cs (2 * j + 1)) ≡ shareFault job (rowOf cs i) (rowOf cs j)
-  unfolding shareFault rowOf
-  share-is i j p = meets-any (nodes job) _ _ (λ q. held .within i q p)
-
   module _ (i j : ℕ) (rises : i < j) (low : j < tasks job) where
     pub pair-is : pairApart cs i j ≡ ruleG job (rowOf cs i) (rowOf cs j)
     unfolding pairApart apart rowOf ruleG ruleGPrimary ruleGBackup
@@ -169,7 +166,7 @@ module _ (job : Job) (cs : Copies) (few : nodes job ≤ maxNodes) (held : Held j
         (ap₂ (λ x y. not x and not y)
         (meeting (2 * i) (2 * j + 1) (omega arith) (omega arith) (rw (held .primary-set i pi) (meets-i everyNode _ _ (on-rack j low) (held .own j low))))
         (clashes-is _ _ _ _ (held .lasts (2 * i + 1) (omega arith)) (held .lasts (2 * j + 1) (omega arith))
-        ∙ ap (λ b. overlap (entry cs (2 * i + 1)) (entry cs (2 * j + 1)) and b) (share-is i j pi)))
+        ∙ ap (λ b. overlap (entry cs (2 * i + 1)) (entry cs (2 * j + 1)) and b) (share-is job cs (tasks job) held _ (rowOf cs j) refl i pi)))
 
   pub pairs-are : first (tasks job) (pairBreach cs (tasks job)) ≡ firstPair job Overlap (λ i j. ruleG job (rowOf cs i) (rowOf cs j))
   unfolding pairBreach firstPair _implies_

@@ -2,7 +2,8 @@
 use Prim.Native.Nat.{ℕ, zero, suc, _+_, _*_, _/_, _≤_, _<_}
 use mathlib.Core.Bool.{true, false}
 use mathlib.Core.List.{List, []}
-use mathlib.Core.Option.{none}
+use mathlib.Core.Logic.{_⊎_, ⊎-elim}
+use mathlib.Core.Option.{Option, none}
 use mathlib.Core.Path.{_≡_, refl, sym, _∙_, ap, ap₂, subst, fun-ext}
 use native.Mathlib.Decide.{decLt}
 use native.Mathlib.Nat.{not-suc-le-zero}
@@ -20,24 +21,30 @@ use Rattle.reader.specs.Limits.{maxTasks, maxStart, maxTime}
 use Rattle.reader.specs.Entries.{nodes, tasks, links, task, link, run}
 use Rattle.reader.specs.Refusals.{answered}
 use Rattle.reader.specs.Sound.{Sound, PlanSound}
-use Rattle.reader.proofs.TestLaws.{and-i, and-l, and-r, or-l, or-r, or-e, not-e, not-i, same-test}
-use Rattle.reader.proofs.FirstLaws.{any-i, any-e}
+use Rattle.reader.proofs.TestLaws.{split, clash, and-i, and-l, and-r, or-l, or-r, or-e, not-e, not-i, same-test}
+use Rattle.reader.proofs.FirstLaws.{first-same, first-none, none-unless, any-i, any-e}
 use Rattle.rules.specs.declared.Copy.{Copy}
 use Rattle.rules.specs.Copies.{copy, inTime, domain}
-use Rattle.rules.specs.Rules.{Row, strong, rows, ruleF}
-use Rattle.rules.specs.Judge.{firstTask, judge}
+use Rattle.rules.specs.Rules.{Row, strong, rows, ruleE, ruleF}
+use Rattle.rules.specs.Waits.{waitsForBoth}
+use Rattle.rules.specs.Judge.{firstTask, firstLink, judge}
 use Rattle.rules.proofs.FaultSetLaws.{faults-here, faults-over, faults-e, rows-faults, row-primary, row-backup}
+use Rattle.rules.proofs.Waits.{both-keeps}
 use Rattle.copies.specs.declared.table.Copies.{Copies}
 use Rattle.copies.specs.Sets.{has}
 use Rattle.copies.specs.Table.{table, entry, rowOf, Held}
+use Rattle.copies.proofs.SetLaws.{has-none}
 use Rattle.copies.proofs.TableLaws.{same-row}
-use Rattle.judge.specs.Parts.{byTasks, byLinks, byFaults}
+use Rattle.copies.proofs.ArrivalLaws.{backup-fed}
+use Rattle.judge.specs.Parts.{byTasks, byLinks, byBackups, byFaults}
 use Rattle.judge.specs.Tasks.{CopyFits, Copied, TasksJudged}
-use Rattle.judge.specs.Links.{Timed, weakLink, WeakTo, LinksJudged}
+use Rattle.judge.specs.Links.{Timed, weakLink, WeakTo, sure, SureBut, LinksJudged}
+use Rattle.judge.specs.declared.links.Walked.{Walked}
+use Rattle.judge.specs.Backups.{linkFeeds, backupBreach, Unsure}
 use Rattle.judge.specs.Faults.{gathered, Senders, FaultSets, Low, lossBreach}
 use Rattle.judge.specs.Overlaps.{faultBreach}
 use Rattle.judge.proofs.ScanLaws.{done-none, after, stop}
-use Rattle.judge.proofs.PartLaws.{breach-parts, from-low, links-same, faults-same}
+use Rattle.judge.proofs.PartLaws.{breach-parts, from-low, links-same, backups-same, faults-same}
 use Rattle.judge.proofs.TaskLaws.{placeable}
 use Rattle.judge.proofs.LinkLaws.{isStrong}
 use Rattle.judge.proofs.OverlapLaws.{pairs-are}
@@ -96,7 +103,7 @@ module _ (job : Job) (plan : Plan) (sound : Sound job) (reads : PlanSound job pl
 
     links-are : byLinks job (rowOf cs) ≡ byLinks job t
     unfolding rowOf
-    links-are = links-same job sound (rowOf cs) t (copied .primary) (copied .backup)
+    links-are = links-same job sound (rowOf cs) t (copied .primary)
 
     -- weak links by the table are those by the rows
     strong-same : (k : ℕ) → k < links job → isStrong job (rowOf cs) k ≡ isStrong job t k
@@ -179,6 +186,37 @@ module _ (job : Job) (plan : Plan) (sound : Sound job) (reads : PlanSound job pl
               within = λ i q p h. faults-low (tasks job) i q p (omega arith) (sym (faults-at i q p) ∙ h);
             }
 
+        -- E at link k, by the table
+        feeds-is : (k : ℕ) → k < links job
+            → linkFeeds (job .links) final k ≡ ruleE job (link job k) (rowOf final (link job k .from)) (rowOf final (link job k .to))
+        unfolding linkFeeds rowOf
+        feeds-is k p = backup-fed job final (tasks job) held _ (rowOf final (link job k .to)) refl (link job k) _ (from-low job sound k p)
+
+        backups-are-judged : backupBreach (job .links) (links job) final ≡ byBackups job t
+        unfolding backupBreach byBackups firstLink
+        backups-are-judged = first-same (links job) _ _ (λ k p. rw (feeds-is k p)) ∙ backups-same job sound (rowOf final) t rows-are
+
+        -- a link that is sure keeps it; others come from the senders in the set
+        module _ (u : ℕ) (is : SureBut job (rowOf cs) (links job) u) where
+          others : (k : ℕ) → k < links job → has u (link job k .from) ≡ false → linkFeeds (job .links) final k ≡ true
+          unfolding waitsForBoth rowOf
+          others k p out =
+              feeds-is k p
+              ∙ both-keeps job (link job k) _ _ (split (sure job (rowOf cs) k) (λ e. e) (λ e. clash _ (is k p e) out))
+
+          unsure : Unsure (job .links) (links job) u final
+          unsure =
+              record {
+                timed = record { few = timed .few; from = timed .from; to = timed .to; primary = timed .primary; backup = timed .backup };
+                others = others;
+              }
+
+          all-sure : u ≡ 0 → byBackups job t ≡ none
+          unfolding backupBreach
+          all-sure empty =
+              sym backups-are-judged
+              ∙ first-none (links job) _ (λ k p. none-unless _ _ (others k p (rw (empty, has-none (link job k .from)))))
+
         breach-is : faultBreach final (tasks job) ≡ byFaults job (rowOf final)
         unfolding faultBreach lossBreach byFaults firstTask ruleF rowOf domain
         breach-is = ap (λ o. lossBreach (cs .node) sets (tasks job) or-else o) (pairs-are job final (sound .nodes-most) held)
@@ -188,8 +226,9 @@ module _ (job : Job) (plan : Plan) (sound : Sound job) (reads : PlanSound job pl
 
 -- the answer of each part where the parts before it found nothing
 module _ (job : Job) (plan : Plan) (sound : Sound job) (reads : PlanSound job plan) (cs : Copies) (v : Answer) (placed : TasksJudged job plan cs v) where
-  parts : (u : Answer) → u ≡ answered (byTasks job (rows job plan) or-else byLinks job (rows job plan) or-else byFaults job (rows job plan))
-      → u ≡ judge job plan
+  parts : (u : Answer)
+      → u ≡ answered (byTasks job (rows job plan) or-else byLinks job (rows job plan)
+      or-else byBackups job (rows job plan) or-else byFaults job (rows job plan)) → u ≡ judge job plan
   unfolding judge
   parts u e = e ∙ ap answered (breach-parts job (rows job plan))
 
@@ -205,7 +244,7 @@ module _ (job : Job) (plan : Plan) (sound : Sound job) (reads : PlanSound job pl
   abbrev bare : Copies
   bare = table (cs .node) (cs .start) (cs .finish) []
 
-  module _ (into : List ℕ) (w : Answer) (walked : LinksJudged job bare into w) where
+  module _ (into : List ℕ) (w : Walked) (walked : LinksJudged job bare into w) where
     -- the table before the first fault set
     pub fillable : Senders (cs .node) into (tasks job) × FaultSets (cs .node) into (tasks job) 0 (cs .set)
     fillable =
@@ -214,19 +253,47 @@ module _ (job : Job) (plan : Plan) (sound : Sound job) (reads : PlanSound job pl
           record { within = omega arith; size = it .whole .set; primary = it .primary-set; backup = λ i q p. absurd (not-suc-le-zero p) },
         )
 
-    module _ (done : v ≡ Done) where
-      no-task : byTasks job (rows job plan) ≡ none
-      no-task = done-none _ _ (placed .answer) done
+    links-answer : w .answer ≡ answered (byLinks job (rows job plan))
+    links-answer = walked .answer ∙ ap answered (links-are job plan sound reads bare (placed .tabled .copied))
 
-      links-answer : w ≡ answered (byLinks job (rows job plan))
-      links-answer = walked .answer ∙ ap answered (links-are job plan sound reads bare (placed .tabled .copied))
+    pub links-refused : v ≡ Done → (r : Refusal) → w .answer ≡ Refused r → w .answer ≡ judge job plan
+    links-refused done r e = parts _ (stop _ _ _ r links-answer e ∙ after _ _ (done-none _ _ (placed .answer) done))
 
-      pub links-refused : (r : Refusal) → w ≡ Refused r → w ≡ judge job plan
-      links-refused r e = parts _ (stop _ _ _ r links-answer e ∙ after _ _ no-task)
+    -- the table with them
+    module _ (sets : List ℕ) (filled : FaultSets (cs .node) into (tasks job) (tasks job) sets) where
+      abbrev full : Copies
+      full = table (cs .node) (cs .start) (cs .finish) sets
 
-      pub faults-answered : w ≡ Done → (sets : List ℕ) → FaultSets (cs .node) into (tasks job) (tasks job) sets
-          → (u : Answer) → u ≡ answered (faultBreach (table (cs .node) (cs .start) (cs .finish) sets) (tasks job)) → u ≡ judge job plan
-      faults-answered d sets filled u e =
-          parts u
-          (e ∙ ap answered (faults-are-judged job plan sound reads bare (placed .tabled .copied) into (walked .weak) sets filled)
-          ∙ after _ _ (done-none _ _ links-answer d) ∙ after _ _ no-task)
+      pub pass-ready : Unsure (job .links) (links job) (w .unsure) full
+      pass-ready = unsure job plan sound reads bare (placed .tabled .copied) into (walked .weak) sets filled (w .unsure) (walked .unsure)
+
+      -- what the pass answers
+      abbrev Passed : Answer → Type 0
+      Passed u = u ≡ answered (backupBreach (job .links) (links job) full)
+
+      backups-answer : (u : Answer) → Passed u → u ≡ answered (byBackups job (rows job plan))
+      backups-answer u e = e ∙ ap answered (backups-are-judged job plan sound reads bare (placed .tabled .copied) into (walked .weak) sets filled)
+
+      -- every link is sure, or the pass found nothing
+      abbrev Fed : Type 0
+      Fed = (w .unsure ≡ 0) ⊎ ((u : Answer) × Passed u × (u ≡ Done))
+
+      backups-kept : Fed → byBackups job (rows job plan) ≡ none
+      backups-kept =
+          ⊎-elim
+          (all-sure job plan sound reads bare (placed .tabled .copied) into (walked .weak) sets filled (w .unsure) (walked .unsure))
+          (λ x. done-none _ _ (backups-answer (x .0) (x .1)) (x .2))
+
+      module _ (done : v ≡ Done) (walk-done : w .answer ≡ Done) where
+        before : (o : Option Refusal) (u : Answer) → u ≡ answered o
+            → u ≡ answered (byTasks job (rows job plan) or-else byLinks job (rows job plan) or-else o)
+        before o u e = e ∙ after _ _ (done-none _ _ links-answer walk-done) ∙ after _ _ (done-none _ _ (placed .answer) done)
+
+        pub backups-refused : (u : Answer) → Passed u → (r : Refusal) → u ≡ Refused r → u ≡ judge job plan
+        backups-refused u e r is = parts u (before _ u (stop _ _ _ r (backups-answer u e) is))
+
+        pub faults-answered : Fed → (u : Answer) → u ≡ answered (faultBreach full (tasks job)) → u ≡ judge job plan
+        faults-answered fed u e =
+            parts u (before _ u (e
+            ∙ ap answered (faults-are-judged job plan sound reads bare (placed .tabled .copied) into (walked .weak) sets filled)
+            ∙ after _ _ (backups-kept fed)))

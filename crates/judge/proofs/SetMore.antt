@@ -1,20 +1,20 @@
--- More laws of sets as bits: one member less, the least member, and empty unions.
+-- More laws of sets as bits: one member less, the least member, empty unions, one member more, and none in common.
 use Prim.Native.Nat.{ℕ, zero, suc, _+_, _-_, _*_, _/_, _%_, _^_, _≤_, _<_}
 use mathlib.Core.Bool.{Bool, true, false, not, cond}
 use mathlib.Core.Path.{_≡_, refl, sym, _∙_, ap, ap₂}
 use native.Mathlib.Decide.{decLt}
 use native.Mathlib.Nat.{div-one, div-eq-of-lt, pow-suc, zero-mul}
 use native.Mathlib.Omega.{arith}
-use lib.Bits.{bitOr}
+use lib.Bits.{bitAnd, bitOr}
 use lib.Count.{trailingZeros, under}
 use lib.Dec.{eqb}
 use lib.Pow.{shr-shr}
 use borrow.Author.Tests.{eqb-true, eq-eqb, ne-eqb}
 use Rattle.reader.specs.Tests.{_and_, _or_}
-use Rattle.reader.proofs.TestLaws.{clash, or-l, or-r, and-l, and-r, not-true, same-test}
-use Rattle.copies.specs.Sets.{has}
+use Rattle.reader.proofs.TestLaws.{split, clash, or-l, or-r, and-l, and-r, not-true, same-test}
+use Rattle.copies.specs.Sets.{has, meets}
 use Rattle.reader.proofs.TestLaws.{and-yes, and-no}
-use Rattle.copies.proofs.SetLaws.{has-union, has-none, empty-set, shifted}
+use Rattle.copies.proofs.SetLaws.{has-union, has-none, has-one, empty-set, shifted, meets-i}
 
 -- the lowest place, and the others
 has-first : (s : ℕ) → has s 0 ≡ eqb (s % 2) 1
@@ -102,3 +102,24 @@ union-empty a b =
 pub shifted-bit : (s : Bool) (bit i : ℕ) → i < 64 → bit ≡ cond s 0 1 → bit * 2 ^ i % 2 ^ 64 ≡ cond s 0 (2 ^ i)
 shifted-bit true bit i p e = rw e (ap (λ (x : ℕ). x % 2 ^ 64) (zero-mul (2 ^ i)))
 shifted-bit false bit i p e = rw e (shifted 64 i p)
+
+-- a sender joins a set unless it passes both of two tests; the others stay
+module _ (y z : Bool) (s u v i : ℕ) (eu : u ≡ cond y 0 (2 ^ i)) (ev : v ≡ cond z 0 (2 ^ i)) where
+  pub joins-unless : (y and z) ≡ false → has (bitOr (bitOr s u) v) i ≡ true
+  unfolding _and_
+  joins-unless h =
+      split y
+      (λ e. let f : z ≡ false = rw e at h in has-union (bitOr s u) v i ∙ or-r _ _ (bit v (rw f at ev)))
+      (λ e. has-union (bitOr s u) v i ∙ or-l _ _ (has-union s u i ∙ or-r _ _ (bit u (rw e at eu))))
+    where
+      bit : (n : ℕ) → n ≡ 2 ^ i → has n i ≡ true
+      bit n e = ap (λ x. has x i) e ∙ has-one i i ∙ eq-eqb i i refl
+
+  pub stays : (n : ℕ) → has s n ≡ true → has (bitOr (bitOr s u) v) n ≡ true
+  stays n h = has-union (bitOr s u) v n ∙ or-l _ _ (has-union s u n ∙ or-l _ _ h)
+
+-- n, whose bit is not in the set
+pub apart-one : (s i n bit : ℕ) → i ≡ n → bit ≡ 2 ^ i → bitAnd s bit ≡ 0 → has s n ≡ false
+unfolding meets
+apart-one s i n bit ei eb e =
+    rw (← ei) (not-true _ λ h. clash _ (meets-i s bit i h (rw eb (has-one i i ∙ eq-eqb i i refl))) (ap (λ x. not (eqb x 0)) e))

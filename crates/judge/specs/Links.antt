@@ -1,23 +1,24 @@
--- What the pass over the links gives: the weak links, and the answer of D and E.
+-- What the pass over the links gives: the weak links, the answer of D, and what it leaves of E.
 use Prim.Native.Nat.{ℕ, _+_, _*_, _≤_, _<_}
-use mathlib.Core.Bool.{Bool, not}
+use mathlib.Core.Bool.{Bool, true, false, not}
 use mathlib.Core.List.{List}
 use mathlib.Core.Path.{_≡_}
 use lib.Dec.{eqb}
 use lib.ListN.{getD}
 use Rattle.reader.specs.declared.job.Job.{Job}
 use Rattle.reader.specs.declared.job.Link.{Link}
-use Rattle.reader.specs.declared.refusal.Answer.{Answer}
 use Rattle.reader.specs.Tests.{_and_}
 use Rattle.reader.specs.First.{any}
 use Rattle.reader.specs.Limits.{maxTasks, maxLinks}
 use Rattle.reader.specs.Entries.{nodes, tasks, links, link, noLink}
 use Rattle.reader.specs.Refusals.{answered}
 use Rattle.rules.specs.Rules.{Row, strong}
+use Rattle.rules.specs.Waits.{waitsForBoth}
 use Rattle.copies.specs.declared.table.Copies.{Copies}
 use Rattle.copies.specs.Sets.{has}
 use Rattle.copies.specs.Arrival.{SumFits}
 use Rattle.copies.specs.Table.{entry, rowOf}
+use Rattle.judge.specs.declared.links.Walked.{Walked}
 use Rattle.judge.specs.Parts.{byLinks}
 
 -- a job with the first n of these links
@@ -51,7 +52,16 @@ weakLink job t i j k =
 abbrev pub WeakTo : Job → (ℕ → Row) → ℕ → List ℕ → Type 0
 WeakTo job t k into = (j i : ℕ) → j < maxTasks → has (getD into j 0) i ≡ any k (weakLink job t i j)
 
--- the weak links of all, and the answer of D and E
-pub record LinksJudged (job : Job) (cs : Copies) (into : List ℕ) (r : Answer) : Type 0 where
+-- by link k the results of both copies are in time for the backup, so that it keeps E whatever the fault sets are
+abbrev pub sure : Job → (ℕ → Row) → ℕ → Bool
+sure job t k = let l = link job k in waitsForBoth job l (t (l .from)) (t (l .to))
+
+-- each of the first k links that is not sure comes from a sender in the set
+abbrev pub SureBut : Job → (ℕ → Row) → ℕ → ℕ → Type 0
+SureBut job t k unsure = (m : ℕ) → m < k → sure job t m ≡ false → has unsure (link job m .from) ≡ true
+
+-- the weak links of all, the answer of D, and the senders of links that are not sure
+pub record LinksJudged (job : Job) (cs : Copies) (into : List ℕ) (r : Walked) : Type 0 where
   pub weak : WeakTo job (rowOf cs) (links job) into
-  pub answer : r ≡ answered (byLinks job (rowOf cs))
+  pub answer : r .answer ≡ answered (byLinks job (rowOf cs))
+  pub unsure : SureBut job (rowOf cs) (links job) (r .unsure)

@@ -1,10 +1,12 @@
 // The judge: the rules of a plan, A to G in turn.
+pub mod backups;
 pub mod faults;
 pub mod links;
 pub mod note;
 pub mod overlaps;
 pub mod tasks;
 
+use crate::backups::backups_fed;
 use crate::faults::common_loss;
 use crate::faults::fault_sets;
 use crate::links::walk_links;
@@ -40,7 +42,7 @@ fn judge_faults<'c>(
     overlapping(node, start, finish, sets, n)
 }
 
-// Tasks, links, then what fault sets decide: each part needs the one before it.
+// Tasks, links, then what fault sets decide, E where the links leave it open: each part needs the one before it.
 pub fn judge_plan(job: Job, plan: Plan) -> Answer
     requires { ⌜ Sound job × PlanSound job plan ⌝ }
     ensures { λ r. ⌜ r ≡ judge job plan ⌝ }
@@ -68,10 +70,18 @@ pub fn judge_plan(job: Job, plan: Plan) -> Answer
     let mut into = [0u64; Job::MAX_TASKS];
     let links = job.links;
     let m = job.link_count as usize;
-    let by_links = walk_links(links, m, &node, &start, &finish, &mut into);
+    let walked = walk_links(links, m, &node, &start, &finish, &mut into);
+    let by_links = walked.answer;
     let Answer::Done = by_links else {
         return by_links;
     };
     fault_sets(&node, &into, n, &mut sets);
+    let unsure = walked.unsure;
+    if unsure != 0 {
+        let by_backups = backups_fed(links, m, unsure, &node, &start, &finish, &sets);
+        let Answer::Done = by_backups else {
+            return by_backups;
+        };
+    }
     judge_faults(&node, &start, &finish, &sets, n)
 }

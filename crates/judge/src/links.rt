@@ -1,4 +1,4 @@
-// One pass over the links: the weak ones, and the first that breaks D or E.
+// One pass over the links: the weak ones, the first that breaks D, and those that may break E.
 use crate::note::NONE;
 use crate::note::noted;
 use copies::arrival::arrives;
@@ -16,37 +16,43 @@ ghost use mathlib.Core.List.{[]};
 ghost use lib.ListN.{replicate};
 ghost use Rattle.reader.specs.declared.job.Job.{Job};
 ghost use Rattle.reader.specs.Limits.{maxTasks};
-ghost use Rattle.copies.specs.Arrival.{SumFits, inTimeOf};
+ghost use Rattle.copies.specs.Arrival.{SumFits, comes};
 ghost use Rattle.copies.specs.Table.{table};
 ghost use Rattle.judge.specs.Links.{linked, Timed, LinksJudged};
 
-fn in_time(delay: u32, c: Copy, d: Copy) -> bool
+pub fn in_time(delay: u32, c: Copy, d: Copy) -> bool
     requires { ⌜ SumFits (c .finish) delay ⌝ }
-    ensures { λ r. ⌜ r ≡ inTimeOf delay (c .node) (c .finish) (d .node) (d .start) ⌝ }
+    ensures { λ r. ⌜ r ≡ comes delay c d ⌝ }
 {
     arrives(delay, c.node, c.finish, d.node, d.start)
 }
 
-fn one_unless(strong: bool) -> u64
-    ensures { λ r. ⌜ r ≡ cond strong 0 1 ⌝ }
+fn one_unless(kept: bool) -> u64
+    ensures { λ r. ⌜ r ≡ cond kept 0 1 ⌝ }
 {
-    if strong { 0 } else { 1 }
+    if kept { 0 } else { 1 }
 }
 
-// The set of task i where its link is weak, else none.
-fn weak_bit(strong: bool, i: usize) -> u64
+// The set of task i where its result is late, else none.
+fn late_bit(kept: bool, i: usize) -> u64
     requires { ⌜ i < 64 ⌝ }
-    ensures { λ r. ⌜ r ≡ cond strong 0 (2 ^ i) ⌝ }
+    ensures { λ r. ⌜ r ≡ cond kept 0 (2 ^ i) ⌝ }
 {
-    one_unless(strong) << i
+    one_unless(kept) << i
 }
 
 // The number of a task as an index: in range for what it indexes.
-fn index(task: u32) -> usize
+pub fn index(task: u32) -> usize
     requires { ⌜ task < maxTasks ⌝ }
     ensures { λ r. ⌜ (r ≡ task) × (r < maxTasks) ⌝ }
 {
     task as usize
+}
+
+// The answer of D, and the senders whose links leave E to the fault sets: by the links of all others both results are in time for the backup.
+pub struct Walked {
+    pub answer: Answer,
+    pub unsure: u64,
 }
 
 // `into` has for each task, as bits, the tasks from which weak links lead to it.
@@ -57,13 +63,13 @@ pub fn walk_links<'c>(
     start: &'c [u32; Copies::COUNT],
     finish: &'c [u32; Copies::COUNT],
     into: &mut [u64; Job::MAX_TASKS],
-) -> Answer
+) -> Walked
     requires { ⌜ Timed links n (table (now node) (now start) (now finish) []) × (now into ≡ replicate maxTasks 0) ⌝ }
     ensures { λ r. ⌜ ((job : Job)
         → LinksJudged (linked job links n) (table (now (node .entry)) (now (start .entry)) (now (finish .entry)) []) (now (into .exit)) r) ⌝ }
 {
     let mut primary = NONE;
-    let mut backup = NONE;
+    let mut unsure: u64 = 0;
     let mut k: usize = 0;
     while k < n {
         let l = links[k];
@@ -74,18 +80,19 @@ pub fn walk_links<'c>(
         let q = copy_at(node, start, finish, 2 * j);
         let c = copy_at(node, start, finish, 2 * j + 1);
         primary = noted(primary, k, in_time(l.delay, p, q));
-        backup = noted(backup, k, in_time(l.delay, p, c));
-        backup = noted(backup, k, in_time(l.delay, b, c));
-        into[j] = into[j] | weak_bit(in_time(l.delay, b, q), i);
+        let first = late_bit(in_time(l.delay, p, c), i);
+        let second = late_bit(in_time(l.delay, b, c), i);
+        unsure = unsure | first | second;
+        into[j] = into[j] | late_bit(in_time(l.delay, b, q), i);
         k += 1;
     }
     if primary != NONE {
         let l = links[primary];
-        return Answer::Refused(Refusal::PrimaryUnfed(l.from as usize, l.to as usize));
+        let answer = Answer::Refused(Refusal::PrimaryUnfed(l.from as usize, l.to as usize));
+        return Walked { answer, unsure };
     }
-    if backup != NONE {
-        let l = links[backup];
-        return Answer::Refused(Refusal::BackupUnfed(l.from as usize, l.to as usize));
+    Walked {
+        answer: Answer::Done,
+        unsure,
     }
-    Answer::Done
 }

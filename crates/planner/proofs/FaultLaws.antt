@@ -11,11 +11,11 @@ use Rattle.reader.proofs.FirstLaws.{any-start}
 use Rattle.rules.specs.declared.Copy.{Copy}
 use Rattle.copies.specs.declared.table.Copies.{Copies}
 use Rattle.copies.specs.Sets.{has}
+use Rattle.copies.specs.Arrival.{comes}
 use Rattle.copies.specs.Chain.{Chain}
 use Rattle.copies.proofs.SetLaws.{has-none, has-one, has-union}
 use Rattle.planner.specs.declared.senders.Sender.{Sender}
 use Rattle.planner.specs.Senders.{Sending}
-use Rattle.planner.specs.Inputs.{comes}
 use Rattle.planner.specs.Faults.{carriedOf, carriesFrom, carriedTo, Faulted}
 use Rattle.planner.proofs.SenderLaws.{Walk, walk-start, Next}
 

@@ -13,14 +13,14 @@ use Rattle.reader.proofs.FirstLaws.{every-start}
 use Rattle.rules.specs.declared.Copy.{Copy}
 use Rattle.copies.specs.declared.table.Copies.{Copies}
 use Rattle.copies.specs.Sets.{meets}
-use Rattle.copies.specs.Arrival.{delayOf, inTimeOf}
+use Rattle.copies.specs.Arrival.{delayOf, inTimeOf, comes}
 use Rattle.copies.specs.Chain.{Chain}
 use Rattle.copies.proofs.ArrivalLaws.{delay-most, leb-max}
 use Rattle.planner.specs.declared.senders.Sender.{Sender}
 use Rattle.planner.specs.declared.inputs.Reach.{Reach}
 use Rattle.planner.specs.declared.inputs.Ready.{Ready}
 use Rattle.planner.specs.Senders.{latestInput, Sending}
-use Rattle.planner.specs.Inputs.{readyOn, fartherOf, comes, fedBy, Farthest, OwnTime, ReadyTime, allFed, Reached, Owned, Given}
+use Rattle.planner.specs.Inputs.{readyOn, fartherOf, fedBy, Farthest, OwnTime, ReadyTime, allFed, Reached, Owned, Given}
 use Rattle.planner.proofs.SenderLaws.{Walk, walk-start, Next}
 
 -- on the node that the latest arrival leaves, and on another

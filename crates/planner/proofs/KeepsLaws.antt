@@ -33,8 +33,8 @@ use Rattle.copies.specs.Sets.{has, meets, everyNode}
 use Rattle.copies.specs.Arrival.{delayOf, inTimeOf}
 use Rattle.copies.specs.Table.{entry, setAt, rowOf}
 use Rattle.copies.specs.Clash.{free}
-use Rattle.copies.proofs.SetLaws.{has-none, has-both, has-every, empty-set, meets-i}
-use Rattle.copies.proofs.ArrivalLaws.{leb-max}
+use Rattle.copies.proofs.SetLaws.{has-none, has-both, empty-set}
+use Rattle.copies.proofs.ArrivalLaws.{leb-max, backup-fed}
 use Rattle.copies.proofs.ChainLaws.{chain-of, chain-within}
 use Rattle.copies.proofs.ClashLaws.{free-last, free-primary, free-backup}
 use Rattle.planner.specs.declared.senders.Sender.{Sender}
@@ -277,22 +277,14 @@ module _ (next from delay : List ℕ) (cs : Copies) (before last : List ℕ) (wa
               ∙ free-backup job cs (w .rows) (w .sound .nodes-most) (w .beside .held) b q set (p .node) (the-row b) refl faults (p-found .node) faults-own
 
           -- and the backup's search
-          module _ (late : Ready) (more : Fed everyNode late) (t : Search) (is-t : t ≡ backupSearch (want .task) (want .count) late least set) where
+          module _ (late : Ready) (more : Fed set late) (t : Search) (is-t : t ≡ backupSearch (want .task) (want .count) late least set) where
             pub backup-ready : Searched cs before last t
             backup-ready = subst (Searched cs before last) (sym is-t) (searched late least set set least-fits (more .most))
 
-            -- a sender's set meets the set of every node
-            counted : (m : ℕ) → m < links job → key m ≡ j → meets (setAt cs (2 * link job m .from + 1)) everyNode ≡ true
-            counted m b e =
-                let i = link job m .from in
-                let h = w .beside .held in
-                let q = w .fed m b e in
-                meets-i _ everyNode (entry cs (2 * i) .node) (h .own i q) (has-every _ (omega (arith, h .node (2 * i) (omega arith), w .sound .nodes-most)))
-
             e-is : (b : Copy) → leb (readyOn late (b .node)) (b .start)
                 ≡ every (links job) (λ k. eqb (key k) j implies ruleE job (link job k) (rowOf cs (link job k .from)) (the-row b))
-            unfolding ruleE row inTime inTimeOf delayOfLink delayOf rowOf _implies_
-            e-is b = fed-is everyNode late more b _ (λ m q e. rw (counted m q e))
+            unfolding row
+            e-is b = fed-is set late more b _ (λ m q e. backup-fed job cs (w .rows) (w .beside .held) set (the-row b) faults (link job m) _ (w .fed m q e))
 
             backup-fits : (b : Copy) → b .node < nodes job → b .start < b .finish
                 → fits cs last (backupSearch (want .task) (want .count) late least set) b ≡ backupKeepsBeside job (w .rows) (rowOf cs) j p b

@@ -9,10 +9,10 @@ use Rattle.reader.specs.First.{any}
 use Rattle.rules.specs.declared.Copy.{Copy}
 use Rattle.copies.specs.declared.table.Copies.{Copies}
 use Rattle.copies.specs.Sets.{has}
+use Rattle.copies.specs.Arrival.{comes}
 use Rattle.copies.specs.Chain.{Chain}
 use Rattle.planner.specs.declared.senders.Sender.{Sender}
 use Rattle.planner.specs.Senders.{senderAt}
-use Rattle.planner.specs.Inputs.{comes}
 
 -- nothing where the link is strong, else the sender's set
 unfoldable pub carriedOf : Sender → Copy → ℕ

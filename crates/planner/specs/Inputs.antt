@@ -4,12 +4,11 @@ use mathlib.Core.Bool.{Bool, true, cond}
 use mathlib.Core.List.{List}
 use mathlib.Core.Path.{_≡_}
 use lib.Dec.{leb, ltb, eqb}
-use Rattle.reader.specs.Tests.{_and_, _implies_}
+use Rattle.reader.specs.Tests.{_implies_}
 use Rattle.reader.specs.First.{every}
 use Rattle.rules.specs.declared.Copy.{Copy}
 use Rattle.copies.specs.declared.table.Copies.{Copies}
-use Rattle.copies.specs.Sets.{meets}
-use Rattle.copies.specs.Arrival.{inTimeOf}
+use Rattle.copies.specs.Arrival.{fedOf}
 use Rattle.copies.specs.Chain.{Chain}
 use Rattle.planner.specs.declared.senders.Sender.{Sender}
 use Rattle.planner.specs.declared.inputs.Reach.{Reach}
@@ -23,13 +22,9 @@ readyOn r n = cond (eqb n (r .node)) (r .own) (r .all)
 unfoldable pub fartherOf : Reach → ℕ → ℕ → Reach
 fartherOf r from at = cond (ltb (r .at) at) (record { at = at; from = from }) r
 
--- the result of copy c comes after a delay in time for d
-abbrev pub comes : ℕ → Copy → Copy → Bool
-comes delay c d = inTimeOf delay (c .node) (c .finish) (d .node) (d .start)
-
--- in time for d, of this set, come the primary's result, and the backup's where the two sets meet
+-- what a copy d of this set needs of a sender is there in time
 abbrev pub fedBy : ℕ → Copy → Sender → Bool
-fedBy set d x = comes (x .delay) (x .primary) d and (meets (x .set) set implies comes (x .delay) (x .backup) d)
+fedBy set d x = fedOf (x .delay) (x .primary) (x .backup) (x .set) d set
 
 -- the latest arrival of what a copy needs
 pub record Farthest (fed : Copy → Bool) (r : Reach) : Type 0 where

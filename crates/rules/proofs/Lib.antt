@@ -16,5 +16,6 @@ pub mod PlannedPasses
 pub mod PlannerRefusals
 pub mod Samples
 pub mod WrongTurns
+pub mod Waits
 pub mod Instance
 pub mod PairOrder

@@ -9,7 +9,7 @@ use Rattle.reader.specs.declared.plan.Plan.{Plan}
 use Rattle.reader.specs.declared.refusal.Answer.the-variants.{Done}
 use Rattle.reader.specs.Entries.{tasks, link}
 use Rattle.reader.specs.Sound.{Sound, PlanSound}
-use Rattle.reader.proofs.TestLaws.{clash, and-l, and-r, not-e}
+use Rattle.reader.proofs.TestLaws.{clash, and-l, and-r, imp-e, not-e}
 use Rattle.rules.specs.declared.Loss.{Loss}
 use Rattle.rules.specs.Copies.{copy, domain}
 use Rattle.rules.specs.Rules.{Row, strong, faultSet, rows, ruleA, ruleB, ruleC, ruleD, ruleE, ruleF, ruleG}
@@ -20,7 +20,7 @@ use Rattle.rules.specs.Breach.{KeptWith, Kept}
 use Rattle.rules.specs.Firm.{Firm, Clear}
 use Rattle.rules.proofs.FaultSetLaws.{rows-faults, faults-here, faults-over, row-primary, row-backup}
 use Rattle.rules.proofs.JudgeLaws.{judge-done}
-use Rattle.rules.proofs.LossLaws.{from-start, called-apart}
+use Rattle.rules.proofs.LossLaws.{struck-both, from-start, called-apart}
 use Rattle.rules.proofs.FirmSurvives.{firm-survives}
 
 -- rows that keep the rules of tasks and links are firm
@@ -36,7 +36,7 @@ kept-firm job t own runs sound k =
       carried = λ m q pm h late. rw (own _ (sound .into m pm)) (faults-over job t _ _ q m pm (eq-eqb (link job m .to) _ refl) late h);
       feeds-primary = k .d;
       feeds-backup = λ m pm. and-l _ _ (k .e m pm);
-      backup-feeds = λ m loss pm of-job h g. and-r _ _ (k .e m pm);
+      backup-feeds = λ m loss pm of-job h g. imp-e _ _ (and-r _ _ (k .e m pm)) (struck-both job loss _ _ of-job h g);
       detected = k .b;
       primary-runs = λ j p. runs j primary p;
       backup-runs = λ j p. runs j backup p;

@@ -12,3 +12,4 @@ pub mod Choice
 pub mod Firm
 pub mod Samples
 pub mod WrongTurns
+pub mod Waits

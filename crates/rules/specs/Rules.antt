@@ -5,7 +5,7 @@ use lib.Dec.{leb, eqb}
 use Rattle.reader.specs.declared.job.Job.{Job}
 use Rattle.reader.specs.declared.job.Link.{Link}
 use Rattle.reader.specs.declared.plan.Plan.{Plan}
-use Rattle.reader.specs.Tests.{_and_, _or_}
+use Rattle.reader.specs.Tests.{_and_, _or_, _implies_}
 use Rattle.reader.specs.First.{any}
 use Rattle.reader.specs.Entries.{tasks, links, detect, deadline, link, place}
 use Rattle.rules.specs.declared.Copy.{Copy}
@@ -74,8 +74,9 @@ unfoldable pub ruleD : Job → Link → Row → Copy → Bool
 ruleD job l r p = inTime job l (r .primary) p
 
 -- 'E. For each link, the finishes of primary i and of backup i, each plus delay, are at most backup j's start.' r is i's row, s is j's
+-- (i) 'It keeps its second half, about backup i, only where the perils of i and j share a node.'
 unfoldable pub ruleE : Job → Link → Row → Row → Bool
-ruleE job l r s = inTime job l (r .primary) (s .backup) and inTime job l (r .backup) (s .backup)
+ruleE job l r s = inTime job l (r .primary) (s .backup) and (shareFault job r s implies inTime job l (r .backup) (s .backup))
 
 -- 'F. Backup j's node is not in j's peril.'
 unfoldable pub ruleF : Job → Row → Bool

@@ -1,4 +1,4 @@
--- The starred samples of document 01, as one table of questions and answers.
+-- The starred samples of document 01, as one table of questions and answers; sample 8 as request (i) has it.
 use Prim.Native.Nat.{ℕ}
 use mathlib.Core.Bool.{Bool, true, false}
 use mathlib.Core.List.{List, [], _∷_}
@@ -72,6 +72,10 @@ pub record Sample : Type 0 where
 abbrev sample : ℕ → Question → Outcome → Sample
 sample n q a = record { number = n; question = q; answer = a }
 
+-- sample 8's plan
+abbrev pub plan8 : Plan
+plan8 = at 0 0 1 5 beside at 1 10 0 14
+
 abbrev pub table : List Sample
 table =
     sample 1 (plans J) (planned (at 0 0 1 5 beside at 0 4 1 9))
@@ -86,7 +90,7 @@ table =
     ∷ sample 6 (judges JWithoutLink (at 0 0 2 5 beside at 1 0 2 4)) passed
     ∷ sample 7 (judges JWithoutLink (at 0 0 2 8 beside at 0 4 2 8)) (declined (told 14 0 1))
     ∷ sample 7 (judges JWithoutLink (at 0 0 2 5 beside at 0 4 2 9)) passed
-    ∷ sample 8 (judges (JWithDelay 6) (at 0 0 1 5 beside at 1 10 0 14)) (declined (told 12 0 1))
+    ∷ sample 8 (judges (JWithDelay 6) plan8) passed
     ∷ sample 9 (plans (JWithDeadline 12)) (planned plan1)
     ∷ sample 9 (plans (JWithDeadline 11)) (declined (told 16 1 1))
     ∷ []

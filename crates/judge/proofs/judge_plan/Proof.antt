@@ -1,7 +1,8 @@
 -- `judge::judge_plan` meets its contract.
+use mathlib.Core.Logic.{inl, inr, ⊎-elim}
 use mathlib.Core.Path.{refl}
 use Rattle.judge.proofs.TaskLaws.{placeable}
-use Rattle.judge.proofs.PlanLaws.{timed, low, fillable, tasks-refused, links-refused, faults-answered}
+use Rattle.judge.proofs.PlanLaws.{timed, low, fillable, pass-ready, tasks-refused, links-refused, backups-refused, faults-answered}
 use borrow.Author.Needs.{needs}
 use Rattle.judge.proofs.judge_plan.Statement.{statement}
 use Rattle.judge.proofs.judge_plan.Tie as tie
@@ -37,25 +38,48 @@ fault-sets-requires c κs =
     fillable _ _ (at-pre .pre .0) (at-pre .pre .1) _ _ (at-place-copies .place-copies .ensures (at-pre .args .job)) _ _
     (at-walk-links .walk-links .ensures (at-pre .args .job))
 
-judge-faults-requires : tie.Need-judge-faults-requires
-judge-faults-requires c κs =
-    let up1 = c .before .before .before .before .before .before .before .before .before .before .before .before .before .before .before .before .before in
-    let at-place-copies = up1 .before .before in
+backups-fed-requires : tie.Need-backups-fed-requires
+backups-fed-requires c κs =
+    let at-if1 = c .before .before .before .before in
+    let at-walk-links = at-if1 .before .before .before .before .before .before .before in
+    let at-place-copies = at-walk-links .before .before .before .before .before .before .before .before .before in
     let at-pre = at-place-copies .before .before .before .before .before .before .before .before in
-    low _ _ (at-pre .pre .0) (at-pre .pre .1) _ _ (at-place-copies .place-copies .ensures (at-pre .args .job))
+    pass-ready _ _ (at-pre .pre .0) (at-pre .pre .1) _ _ (at-place-copies .place-copies .ensures (at-pre .args .job)) _ _
+    (at-walk-links .walk-links .ensures (at-pre .args .job)) _ (at-if1 .before .fault-sets .ensures)
 
 returns-3 : tie.Need-returns-3
 returns-3 c =
-    let at-fault-sets = c .before .before .before .before .before in
+    let at-fault-sets = c .before .before .before .before .before .before .before .before in
     let at-enum-told3 = at-fault-sets .before .before .before .before in
     let at-enum-told = at-enum-told3 .before .before .before .before .before .before .before .before .before in
     let at-pre = at-enum-told .before .before .before .before .before .before .before .before .before .before in
+    backups-refused _ _ (at-pre .pre .0) (at-pre .pre .1) _ _ (at-enum-told .before .before .place-copies .ensures (at-pre .args .job)) _ _
+    (at-enum-told3 .before .before .walk-links .ensures (at-pre .args .job)) _ (at-fault-sets .fault-sets .ensures)
+    (at-enum-told .enum-told .given .1) (at-enum-told3 .enum-told3 .given .1) _ (c .before .before .backups-fed .ensures) _
+    (c .enum-told6 .given .1)
+
+judge-faults-requires : tie.Need-judge-faults-requires
+judge-faults-requires c κs =
+    let up1 = c .before .before .before .before .before .before .before .before .before .before .before .before .before .before in
+    let at-place-copies = up1 .before .before .before .before .before .before in
+    let at-pre = at-place-copies .before .before .before .before .before .before .before .before in
+    low _ _ (at-pre .pre .0) (at-pre .pre .1) _ _ (at-place-copies .place-copies .ensures (at-pre .args .job))
+
+returns-4 : tie.Need-returns-4
+returns-4 c =
+    let at-if1 = c .before .before .before .before .before in
+    let at-enum-told3 = at-if1 .before .before .before .before .before in
+    let at-enum-told = at-enum-told3 .before .before .before .before .before .before .before .before .before in
+    let at-pre = at-enum-told .before .before .before .before .before .before .before .before .before .before in
     faults-answered _ _ (at-pre .pre .0) (at-pre .pre .1) _ _ (at-enum-told .before .before .place-copies .ensures (at-pre .args .job)) _ _
-    (at-enum-told3 .before .before .walk-links .ensures (at-pre .args .job)) (at-enum-told .enum-told .given .1) (at-enum-told3 .enum-told3 .given .1) _
-    (at-fault-sets .fault-sets .ensures) _ (c .judge-faults .ensures)
+    (at-enum-told3 .before .before .walk-links .ensures (at-pre .args .job)) _ (at-if1 .before .fault-sets .ensures)
+    (at-enum-told .enum-told .given .1) (at-enum-told3 .enum-told3 .given .1)
+    (⊎-elim (λ x. inr (_, x .5 .ensures, x .7 .given .1)) (λ x. inl (x .left)) (at-if1 .if1 .came))
+    _ (c .judge-faults .ensures)
 
 pub judge-plan-spec : {M : Type 1} → statement M
 judge-plan-spec =
     tie.close
-    (tie.spec (λ c. search needs) place-copies-requires (λ c. search needs) (λ c. search needs) returns (λ c. search needs) walk-links-requires
-    (λ c. search needs) (λ c. search needs) returns-2 fault-sets-requires judge-faults-requires returns-3)
+    (tie.spec (λ c. search needs) place-copies-requires (λ c. search needs) (λ c. search needs) returns (λ c. search needs)
+    walk-links-requires (λ c. search needs) (λ c. search needs) returns-2 fault-sets-requires backups-fed-requires (λ c. search needs)
+    (λ c. search needs) returns-3 judge-faults-requires returns-4)

@@ -6,19 +6,18 @@ use Rattle.reader.specs.declared.job.Job.{Job}
 use Rattle.reader.specs.Entries.{emptyJob}
 use Rattle.copies.specs.Table.{table}
 use Rattle.judge.specs.Links.{linked}
-use Rattle.judge.proofs.NoteLaws.{seen-last, seen-done, seen-stop, seen-on}
-use Rattle.judge.proofs.LinkLaws.{Walking, walk-start, walk-more, walk-done, primary-fits, backup-fits}
-use Rattle.judge.proofs.LinkLaws.{primary-index, backup-index}
+use Rattle.judge.proofs.NoteLaws.{seen-last, seen-done}
+use Rattle.judge.proofs.LinkLaws.{Walking, walk-start, walk-more, walk-done, primary-fits, backup-fits, primary-index}
 use borrow.Author.Needs.{needs}
 use Rattle.judge.proofs.links.walk_links.Statement.{statement}
 use Rattle.judge.proofs.links.walk_links.Tie as tie
 
 abbrev Inv-loop : tie.InvT-loop
-Inv-loop n node start finish into₀ links primary₀ backup₀ k₀ into primary backup k =
-    (job : Job) → Walking (linked job links n) (table node start finish []) k into primary backup
+Inv-loop n node start finish into₀ links primary₀ unsure₀ k₀ into primary unsure k =
+    (job : Job) → Walking (linked job links n) (table node start finish []) k into primary unsure
 
 abbrev μ-loop : tie.MeasureT-loop
-μ-loop n node start finish into₀ links primary₀ backup₀ k₀ into primary backup k = n - k
+μ-loop n node start finish into₀ links primary₀ unsure₀ k₀ into primary unsure k = n - k
 
 loop-holds : tie.Need-loop-holds Inv-loop μ-loop
 loop-holds c = λ job. walk-start _ _ _ (c .pre .1)
@@ -39,6 +38,9 @@ in-time-requires c κs =
 in-time-requires-2 : tie.Need-in-time-requires-2 Inv-loop μ-loop
 in-time-requires-2 c κs = in-time-requires (c .before .before) κs
 
+late-bit-requires : tie.Need-late-bit-requires Inv-loop μ-loop
+late-bit-requires c κs = c .before .before .before .before .before .before .before .before .index .ensures .1
+
 in-time-requires-3 : tie.Need-in-time-requires-3 Inv-loop μ-loop
 in-time-requires-3 c κs =
     let at-copy-at2 = c .before .before .before .before .before .before in
@@ -46,14 +48,17 @@ in-time-requires-3 c κs =
     let at-pre = at-index .before .before .before .before in
     backup-fits _ _ _ (at-pre .pre .0) _ (at-index .before .before .loop-test .taken) _ (at-index .index .ensures .0) _ (at-copy-at2 .copy-at2 .ensures)
 
+late-bit-requires-2 : tie.Need-late-bit-requires-2 Inv-loop μ-loop
+late-bit-requires-2 c κs = late-bit-requires (c .before .before) κs
+
 in-time-requires-4 : tie.Need-in-time-requires-4 Inv-loop μ-loop
 in-time-requires-4 c κs = in-time-requires-3 (c .before .before .before) κs
 
-weak-bit-requires : tie.Need-weak-bit-requires Inv-loop μ-loop
-weak-bit-requires c κs = c .before .before .before .before .before .before .before .before .before .before .before .before .before .index .ensures .1
+late-bit-requires-3 : tie.Need-late-bit-requires-3 Inv-loop μ-loop
+late-bit-requires-3 c κs = late-bit-requires-2 (c .before .before .before) κs
 
 -- the turn, from its last call
-abbrev turn : tie.After-weak-bit Inv-loop μ-loop → tie.In-loop Inv-loop μ-loop
+abbrev turn : tie.After-late-bit3 Inv-loop μ-loop → tie.In-loop Inv-loop μ-loop
 turn c = c .before .before .before .before .before .before .before .before .before .before .before .before .before .before .before .before
 
 add-k : tie.Need-add-k Inv-loop μ-loop
@@ -64,16 +69,17 @@ loop-less c = omega (arith, turn c .loop-test .taken)
 
 loop-again : tie.Need-loop-again Inv-loop μ-loop
 loop-again c =
-    let at-noted3 = c .before .before .before in
-    let at-in-time2 = at-noted3 .before .before .before in
+    let at-late-bit2 = c .before .before .before in
+    let at-in-time2 = at-late-bit2 .before .before .before in
     let at-copy-at4 = at-in-time2 .before .before .before in
     let at-copy-at = at-copy-at4 .before .before .before in
     let at-loop-test = at-copy-at .before .before .before .before in
     λ job. walk-more _ _ (at-loop-test .before .before .pre .0) _ (at-loop-test .loop-test .taken) _ _ (at-copy-at .before .before .index .ensures .0)
     (at-copy-at .before .index2 .ensures .0) _ _ _ (at-loop-test .before .loop .inv job) _ _ _ _ (at-copy-at .copy-at .ensures)
     (at-copy-at4 .before .before .copy-at2 .ensures) (at-copy-at4 .before .copy-at3 .ensures) (at-copy-at4 .copy-at4 .ensures) _ _ _ _
-    (at-in-time2 .before .before .in-time .ensures) (at-in-time2 .in-time2 .ensures) (at-noted3 .before .in-time3 .ensures) (c .before .in-time4 .ensures) _
-    _ _ _ (at-in-time2 .before .noted .ensures) (at-noted3 .before .before .noted2 .ensures) (at-noted3 .noted3 .ensures) (c .weak-bit .ensures)
+    (at-in-time2 .before .before .in-time .ensures) (at-in-time2 .in-time2 .ensures) (at-late-bit2 .before .in-time3 .ensures)
+    (c .before .in-time4 .ensures) _ _ _ _ (at-in-time2 .before .noted .ensures) (at-late-bit2 .before .before .late-bit .ensures)
+    (at-late-bit2 .late-bit2 .ensures) (c .late-bit3 .ensures)
 
 array-copy-out-l-2 : tie.Need-array-copy-out-l-2 Inv-loop μ-loop
 array-copy-out-l-2 c = primary-index _ _ (c .before .before .before .pre .0) _ _ _ _ (c .before .before .loop .inv emptyJob) (omega arith) (c .if1 .taken)
@@ -85,28 +91,11 @@ returns : tie.Need-returns Inv-loop μ-loop
 returns c =
     let at-if1 = c .before .before .before in
     let at-pre = at-if1 .before .before .before in
-    λ job. walk-done _ _ (at-pre .pre .0) _ _ _ _ (at-if1 .before .before .loop .inv job) (omega arith) _ (seen-stop _ _ _ (at-if1 .if1 .taken))
-
-array-copy-out-l-3 : tie.Need-array-copy-out-l-3 Inv-loop μ-loop
-array-copy-out-l-3 c =
-    let at-loop = c .before .before .before in
-    backup-index _ _ (at-loop .before .pre .0) _ _ _ _ (at-loop .loop .inv emptyJob) (omega arith) (c .if2 .taken)
-
-mul-l-3 : tie.Need-mul-l-3 Inv-loop μ-loop
-mul-l-3 c = omega (arith, array-copy-out-l-3 c)
+    λ job. walk-done _ _ (at-pre .pre .0) _ _ _ _ (at-if1 .before .before .loop .inv job) (omega arith) _ (seen-last _ _ (at-if1 .if1 .taken))
 
 returns-2 : tie.Need-returns-2 Inv-loop μ-loop
 returns-2 c =
-    let at-if2 = c .before .before .before in
-    let at-loop = at-if2 .before .before .before in
-    λ job. walk-done _ _ (at-loop .before .pre .0) _ _ _ _ (at-loop .loop .inv job) (omega arith) _
-    (seen-on _ _ _ _ (at-if2 .before .if1 .left) (seen-last _ _ (at-if2 .if2 .taken)))
-
-returns-3 : tie.Need-returns-3 Inv-loop μ-loop
-returns-3 c =
-    let at-loop = c .before .before .before in
-    λ job. walk-done _ _ (at-loop .before .pre .0) _ _ _ _ (at-loop .loop .inv job) (omega arith) _
-    (seen-on _ _ _ _ (c .before .if1 .left) (seen-done _ _ (c .if2 .left)))
+    λ job. walk-done _ _ (c .before .before .before .pre .0) _ _ _ _ (c .before .before .loop .inv job) (omega arith) _ (seen-done _ _ (c .if1 .left))
 
 pub walk-links-spec : {M : Type 1} → statement M
 walk-links-spec =
@@ -114,6 +103,6 @@ walk-links-spec =
     (tie.spec Inv-loop μ-loop loop-holds (λ c. search needs) (λ c. search needs) index-requires index-requires-2 (λ c. search needs)
     (λ c κs. search needs) (λ c. search needs) (λ c. search needs) (λ c κs. search needs) (λ c. search needs) (λ c κs. search needs)
     (λ c. search needs) (λ c. search needs) (λ c κs. search needs) in-time-requires (λ c κs. search needs) in-time-requires-2
-    (λ c κs. search needs) in-time-requires-3 (λ c κs. search needs) (λ c. search needs) (λ c. search needs) in-time-requires-4
-    weak-bit-requires (λ c. search needs) (λ c. search needs) add-k loop-less loop-again mul-l-2 array-copy-out-l-2 (λ c. search needs)
-    (λ c. search needs) returns mul-l-3 array-copy-out-l-3 (λ c. search needs) (λ c. search needs) returns-2 returns-3)
+    late-bit-requires in-time-requires-3 late-bit-requires-2 (λ c. search needs) (λ c. search needs) in-time-requires-4 late-bit-requires-3
+    (λ c. search needs) (λ c. search needs) add-k loop-less loop-again mul-l-2 array-copy-out-l-2 (λ c. search needs) (λ c. search needs)
+    returns returns-2)
