@@ -207,29 +207,6 @@ static uint64_t judge_tasks(const struct job *job, const struct layout *plan)
     return 0;
 }
 
-static uint64_t judge_primary_inputs(const struct job *job, const struct layout *plan)
-{
-    for (uint32_t i = 0; i < job->links; i++) {
-        const struct link *link = &job->link[i];
-        if (!in_time(&plan->primary[link->from], link->delay, &plan->primary[link->to]))
-            return refuse(PRIMARY_UNFED, link->from, link->to);
-    }
-    return 0;
-}
-
-/* Fault sets (document 01's perils) as bits. Links rise by from, so a sender's set is whole
-   before it is handed on. */
-static void find_fault_sets(const struct job *job, const struct layout *plan, uint32_t *faults)
-{
-    for (uint32_t task = 0; task < job->tasks; task++)
-        faults[task] = UINT32_C(1) << plan->primary[task].node;
-    for (uint32_t i = 0; i < job->links; i++) {
-        const struct link *link = &job->link[i];
-        if (!in_time(&plan->backup[link->from], link->delay, &plan->primary[link->to]))
-            faults[link->to] |= faults[link->from];
-    }
-}
-
 /* A backup waits for its sender's backup only where one loss may call for both (request (i)). */
 static uint64_t judge_backup_inputs(const struct job *job, const struct layout *plan,
                                     const uint32_t *faults)
@@ -261,17 +238,19 @@ static uint64_t judge_nodes(const struct job *job, const struct layout *plan,
     return 0;
 }
 
+/* Rule D, and the fault sets (document 01's perils) as bits: each baseline has its own way. */
+static uint64_t judge_primary_inputs(const struct job *job, const struct layout *plan,
+                                     uint32_t *faults);
+
 /* Rules A to G in turn. */
 static uint64_t judge_plan(const struct job *job, const struct layout *plan)
 {
     uint32_t faults[MAX_TASKS];
     uint64_t refused = judge_tasks(job, plan);
     if (!refused)
-        refused = judge_primary_inputs(job, plan);
-    if (refused)
-        return refused;
-    find_fault_sets(job, plan, faults);
-    refused = judge_backup_inputs(job, plan, faults);
+        refused = judge_primary_inputs(job, plan, faults);
+    if (!refused)
+        refused = judge_backup_inputs(job, plan, faults);
     if (!refused)
         refused = judge_nodes(job, plan, faults);
     return refused;

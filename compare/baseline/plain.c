@@ -2,6 +2,32 @@
 
 #include "common.h"
 
+/* The judge. */
+
+/* Links rise by from, so a sender's set is whole before it is handed on. */
+static void find_fault_sets(const struct job *job, const struct layout *plan, uint32_t *faults)
+{
+    for (uint32_t task = 0; task < job->tasks; task++)
+        faults[task] = UINT32_C(1) << plan->primary[task].node;
+    for (uint32_t i = 0; i < job->links; i++) {
+        const struct link *link = &job->link[i];
+        if (!in_time(&plan->backup[link->from], link->delay, &plan->primary[link->to]))
+            faults[link->to] |= faults[link->from];
+    }
+}
+
+static uint64_t judge_primary_inputs(const struct job *job, const struct layout *plan,
+                                     uint32_t *faults)
+{
+    for (uint32_t i = 0; i < job->links; i++) {
+        const struct link *link = &job->link[i];
+        if (!in_time(&plan->primary[link->from], link->delay, &plan->primary[link->to]))
+            return refuse(PRIMARY_UNFED, link->from, link->to);
+    }
+    find_fault_sets(job, plan, faults);
+    return 0;
+}
+
 /* The planner. */
 
 struct draft {

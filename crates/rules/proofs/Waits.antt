@@ -9,7 +9,7 @@ use native.Mathlib.Omega.{arith}
 use Rattle.reader.specs.declared.job.Job.{Job}
 use Rattle.reader.specs.declared.job.Link.{Link}
 use Rattle.reader.specs.declared.plan.Plan.{Plan}
-use Rattle.reader.specs.declared.refusal.Refusal.the-variants.{BackupUnfed, NoBackup}
+use Rattle.reader.specs.declared.refusal.Refusal.the-variants.{BackupUnfed, CommonLoss, NoBackup}
 use Rattle.reader.specs.declared.refusal.Answer.the-variants.{Done, Refused}
 use Rattle.reader.specs.Tests.{_implies_}
 use Rattle.reader.specs.Entries.{link}
@@ -28,7 +28,7 @@ use Rattle.rules.specs.Planner.{planner}
 use Rattle.rules.specs.Breach.{found, Everywhere, check}
 use Rattle.rules.specs.Samples.{written, wrote, plan8}
 use Rattle.rules.specs.Waits.{waitsForBoth, checkBy, judgeBy, neverWaits, waitsByPrimaries, waitsByEarlier}
-use Rattle.rules.specs.Waits.{weakPlan, slowLinks, slowPlan, crowded, crowdedPlan}
+use Rattle.rules.specs.Waits.{weakPlan, slowLinks, slowPlan, crowded, crowdedPlan, onePlan, lostPlan}
 use Rattle.rules.proofs.JudgeLaws.{found-none, breach-first}
 use Rattle.rules.proofs.Samples.{computed}
 
@@ -101,3 +101,16 @@ pub earlier-in-the-way :
     (planner crowded ≡ refused (NoBackup 3)) × (judgeBy waitsForBoth crowded crowdedPlan ≡ Done) × (judge crowded crowdedPlan ≡ Done)
 unfolding computed waitsForBoth judgeBy
 earlier-in-the-way = (refl, refl, refl)
+
+-- where two links break E the first is named, the second once the first keeps it
+pub first-unfed :
+    (judge slowLinks (onePlan 10) ≡ Refused (BackupUnfed 0 2))
+    × (judge slowLinks (onePlan 11) ≡ Refused (BackupUnfed 1 2))
+    × (judge slowLinks (onePlan 13) ≡ Done)
+unfolding computed
+first-unfed = (refl, refl, refl)
+
+-- and 12 goes before 13, though both ask for fault sets
+pub unfed-before-lost : (judge J (lostPlan 10) ≡ Refused (BackupUnfed 0 1)) × (judge J (lostPlan 11) ≡ Refused (CommonLoss 1))
+unfolding computed
+unfed-before-lost = (refl, refl)

@@ -62,3 +62,11 @@ crowded =
 
 abbrev pub crowdedPlan : Plan
 crowdedPlan = planWith (at 0 0 1 3 ∷ at 1 0 0 3 ∷ at 0 8 1 11 ∷ at 2 2 1 7 ∷ [])
+
+-- of slowLinks: all primaries on node 0, the third backup at this tick
+abbrev pub onePlan : ℕ → Plan
+onePlan tick = planWith (at 0 0 1 3 ∷ at 0 2 1 5 ∷ at 0 4 2 tick ∷ [])
+
+-- of J: a weak link, and backup 1 at this tick on the node of primary 0
+abbrev pub lostPlan : ℕ → Plan
+lostPlan tick = at 0 0 1 5 beside at 2 6 0 tick
