@@ -2,7 +2,9 @@
  *
  * A job file lists nodes, tasks and links. A plan file gives each task a
  * primary and a backup copy. Each number in a file is 4 bytes, unsigned, low
- * byte first; N is the job's task count and P its node count.
+ * byte first; N is the job's task count and P its node count. In a job of version
+ * 2 each task has a ready time, before its deadline in the file; in a job of
+ * version 1 it has none and counts as ready at 0. A plan has version 1 for each job.
  *
  * POINTERS. These are the only conditions that a caller has to keep:
  * - A pointer is valid for reading (job, plan) or for reading and writing
@@ -27,7 +29,7 @@
  * first place and 0 as the second. The result does not say which of the two files
  * is meant; seqopchi_plan with out_len 0 tells whether a job reads well.
  *   1 short       fewer than 4 bytes are left for a number
- *   2 version     the version is not 1
+ *   2 version     a job's version is not 1 or 2, or a plan's is not 1
  *   3 count       a count is outside its limits, or the plan's count is not N
  *   4 value       any other number is outside its limits; also a link's to
  *                 that is not above its from
@@ -47,8 +49,9 @@
 extern "C" {
 #endif
 
-/* Limits of both files. */
-#define SEQOPCHI_FILE_VERSION 1
+/* Versions and limits of both files. Job versions count from 1. */
+#define SEQOPCHI_NEWEST_JOB_VERSION 2
+#define SEQOPCHI_PLAN_VERSION 1
 #define SEQOPCHI_MIN_NODES 2
 #define SEQOPCHI_MAX_NODES 16
 #define SEQOPCHI_MIN_TASKS 1
@@ -56,14 +59,21 @@ extern "C" {
 #define SEQOPCHI_MAX_LINKS 512
 #define SEQOPCHI_MAX_DETECT 1000
 #define SEQOPCHI_MIN_DEADLINE 1
-#define SEQOPCHI_MAX_TIME 1000000 /* deadlines, run times, delays and starts */
+/* Ready times, deadlines, run times, delays and starts. */
+#define SEQOPCHI_MAX_TIME 1000000
 
-/* Lengths in bytes of what is read and written. */
-#define SEQOPCHI_JOB_BYTES(nodes, tasks, links) \
-    (16 + 4 * (nodes) + 4 * (tasks) * (1 + (nodes)) + 12 * (links))
+/* Lengths in bytes of what is read and written. Those of a job go by its version:
+ * the entry of a node (detect time, in each version) and of a task (ready time, from
+ * version 2 on; deadline; run times), then the file. */
+#define SEQOPCHI_NODE_BYTES(version) (4 + 0 * (version))
+#define SEQOPCHI_TASK_BYTES(version, nodes) \
+    (((version) >= 2 ? 8 : 4) + 4 * (nodes))
+#define SEQOPCHI_JOB_BYTES(version, nodes, tasks, links) \
+    (16 + SEQOPCHI_NODE_BYTES(version) * (nodes) \
+     + SEQOPCHI_TASK_BYTES(version, nodes) * (tasks) + 12 * (links))
 #define SEQOPCHI_PLAN_BYTES(tasks) (8 + 16 * (tasks))
 #define SEQOPCHI_REPLAY_BYTES(tasks) (12 * (tasks))
-#define SEQOPCHI_MAX_JOB_BYTES 10576
+#define SEQOPCHI_MAX_JOB_BYTES 10832 /* of the newest version */
 #define SEQOPCHI_MAX_PLAN_BYTES SEQOPCHI_PLAN_BYTES(SEQOPCHI_MAX_TASKS)
 #define SEQOPCHI_MAX_REPLAY_BYTES SEQOPCHI_REPLAY_BYTES(SEQOPCHI_MAX_TASKS)
 
@@ -87,7 +97,8 @@ enum seqopchi_refusal {
     SEQOPCHI_REFUSED_NO_PRIMARY = 15,     /* no primary; task / task */
     SEQOPCHI_REFUSED_NO_BACKUP = 16,      /* no backup; task / task */
     SEQOPCHI_REFUSED_SHORT_BUFFER = 17,   /* short buffer; bytes needed / 0 */
-    SEQOPCHI_REFUSED_NO_SUCH_NODE = 18    /* no such node; that number / 0 */
+    SEQOPCHI_REFUSED_NO_SUCH_NODE = 18,   /* no such node; that number / 0 */
+    SEQOPCHI_REFUSED_TOO_SOON = 19        /* too soon; task / task */
 };
 
 /* What became of a copy, as replay writes it. */
@@ -97,17 +108,20 @@ enum seqopchi_outcome {
     SEQOPCHI_FINISHED = 2
 };
 
-/* Whether plan keeps rules A to G for job. The delay from a copy of i to a copy of
- * j is 0 on one node, else the link's. A link i to j is strong if backup i's finish
- * plus delay is at most primary j's start, else weak. The fault set of a task, which
- * document 01 calls its peril, is the nodes that hold its primary or the primary of
- * a task from which a path of weak links leads to it. In this order:
+/* Whether plan keeps rules A to G and the ready times of job. The delay from a copy
+ * of i to a copy of j is 0 on one node, else the link's. A link i to j is strong if
+ * backup i's finish plus delay is at most primary j's start, else weak. The fault
+ * set of a task, which document 01 calls its peril, is the nodes that hold its
+ * primary or the primary of a task from which a path of weak links leads to it. In
+ * this order:
  *   1 to 6          the faults of the job
  *   1 to 4, 6, 7    the faults of the plan
- *   8 to 14         the first broken rule: A to G in turn, each over all tasks
- *                   (links, pairs) in rising order
+ *   8, 19, 9 to 14  the first broken rule: A, the ready times, B to G in turn,
+ *                   each over all tasks (links, pairs) in rising order
  *   0               the plan is passed
  *  8 same node      A: primary and backup on different nodes; task / task
+ * 19 too soon       a primary starts no sooner than its task's ready time, which
+ *                   is 0 in a job of version 1; no backup is held to it; task / task
  *  9 early          B: a backup starts no sooner than its primary's finish plus
  *                   the detect time of the primary's node; task / task
  * 10 late           C: the backup finishes by the deadline; task / task
@@ -124,7 +138,8 @@ uint64_t seqopchi_judge(const uint8_t *job, size_t job_len,
                         const uint8_t *plan, size_t plan_len);
 
 /* Plans job, task by task: each copy where it finishes earliest under the
- * rules, then on the lowest node. In this order:
+ * rules, then on the lowest node. A primary starts no sooner than its task's ready
+ * time (0 in a job of version 1). In this order:
  *   1 to 6  the faults of the job
  *   17      out_len is below 8 + 16 N; 8 + 16 N / 0
  *   15      no place for the primary of the first task that has none; task / task
@@ -137,8 +152,9 @@ uint64_t seqopchi_judge(const uint8_t *job, size_t job_len,
 uint64_t seqopchi_plan(const uint8_t *job, size_t job_len,
                        uint8_t *out, size_t out_len);
 
-/* The run of plan with no loss, also where the judge would refuse the plan. In
- * this order:
+/* The run of plan with no loss, also where the judge would refuse the plan. A
+ * primary whose start is before its task's ready time (0 in a job of version 1)
+ * does not start. In this order:
  *   1 to 6        the faults of the job
  *   1 to 4, 6, 7  the faults of the plan
  *   17            out_len is below 12 N; 12 N / 0
@@ -185,7 +201,7 @@ static inline const char *seqopchi_word(unsigned number)
         "done", "short", "version", "count", "value", "link order", "tail",
         "unable", "same node", "early", "late", "primary unfed",
         "backup unfed", "common loss", "overlap", "no primary", "no backup",
-        "short buffer", "no such node"
+        "short buffer", "no such node", "too soon"
     };
     return number < sizeof words / sizeof words[0] ? words[number] : "unknown";
 }

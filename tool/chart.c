@@ -9,6 +9,12 @@ double x_of(const struct chart *c, uint32_t tick)
     return LEFT + (c->right - LEFT) * tick / c->last;
 }
 
+double bar_top(const struct chart *c, size_t copy)
+{
+    return c->lane[c->copies[copy].node] + LANE_EDGE + ROW * c->row[copy]
+        + (ROW - BAR) / 2.0;
+}
+
 bool is_lost(const struct chart *c, uint32_t node)
 {
     return c->o->lose && c->o->node == node;
@@ -69,20 +75,25 @@ static uint32_t last_finish(const struct chart *c)
     return finish;
 }
 
-/* The axis ends behind the last finish, the deadlines and the loss, unless these
- * lie so far off that the copies would be squeezed. */
+/* The end of an axis that also holds this tick, unless it lies too far off. */
+static uint32_t end_with(uint32_t end, uint32_t tick, uint32_t most)
+{
+    return tick > end && tick <= most ? tick : end;
+}
+
+/* The axis ends behind the last finish, the deadlines, the ready times and the loss,
+ * unless these lie so far off that the copies would be squeezed. */
 static void set_axis(struct chart *c)
 {
+    const struct file *job = &c->in->job;
     uint32_t finish = last_finish(c), end = finish;
 
     for (uint32_t task = 0; task < c->tasks; task++) {
-        uint32_t deadline = job_deadline(&c->in->job, task);
-
-        if (deadline > end && deadline <= finish / 2 * 5)
-            end = deadline;
+        end = end_with(end, job_deadline(job, task), finish / 2 * 5);
+        end = end_with(end, job_ready(job, task), finish / 2 * 5);
     }
-    if (c->o->lose && c->o->tick > end && c->o->tick <= finish / 4 * 5)
-        end = c->o->tick;
+    if (c->o->lose)
+        end = end_with(end, c->o->tick, finish / 4 * 5);
     c->step = axis_step(end);
     c->last = (end + c->step - 1) / c->step * c->step;
 }
@@ -150,6 +161,7 @@ static void draw(struct chart *c)
     draw_loss(c);
     draw_poles(c);
     draw_copies(c);
+    draw_ready_marks(c);
     draw_flags(c);
     draw_legend(c);
     buffer_print(&c->svg, "</svg>\n");

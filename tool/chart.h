@@ -38,6 +38,7 @@ struct chart {
 };
 
 double x_of(const struct chart *c, uint32_t tick);
+double bar_top(const struct chart *c, size_t copy);
 bool is_lost(const struct chart *c, uint32_t node);
 
 /* What became of a copy; in a chart without a loss each counts as finished. */
@@ -46,12 +47,18 @@ uint32_t outcome(const struct chart *c, const struct copy *copy);
 /* Finds a place for each flag; gives the height that they take together. */
 double place_flags(struct chart *c);
 
+/* Whether the chart has a mark where some task becomes ready. */
+bool has_ready_marks(const struct chart *c);
+/* The mark of the tick at x, over a height from top on. */
+void draw_ready_mark(struct chart *c, double x, double top, double height);
+
 void draw_styles(struct chart *c, double height);
 void draw_title(struct chart *c);
 void draw_lanes(struct chart *c);
 void draw_loss(struct chart *c);
 void draw_poles(struct chart *c);
 void draw_copies(struct chart *c);
+void draw_ready_marks(struct chart *c);
 void draw_flags(struct chart *c);
 void draw_legend(struct chart *c);
 

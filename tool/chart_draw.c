@@ -28,7 +28,14 @@ static const char styles[] =
     ".on{fill:#fff;font-weight:bold;text-anchor:middle}\n"
     ".off{text-anchor:middle}\n"
     ".edge{stroke:#fff;stroke-width:6;fill:none;stroke-linecap:round}\n"
-    ".cut{stroke:#b00020;stroke-width:3;fill:none;stroke-linecap:round}\n"
+    ".cut{stroke:#b00020;stroke-width:3;fill:none;stroke-linecap:round}\n";
+
+/* Only where there is a mark of it. */
+static const char ready_style[] =
+    ".ready{fill:#1f7a3a;stroke:#fff}\n"
+    ".wait{stroke:#1f7a3a;stroke-width:2;fill:none}\n";
+
+static const char patterns[] =
     "</style>\n"
     "<defs>\n"
     "<pattern id=\"hatch\" width=\"7\" height=\"7\" patternUnits=\"userSpaceOnUse\" "
@@ -47,6 +54,9 @@ void draw_styles(struct chart *c, double height)
                  "width=\"%.0f\" height=\"%.0f\" viewBox=\"0 0 %.0f %.0f\">\n",
                  wide, height, wide, height);
     buffer_add(&c->svg, styles, sizeof styles - 1);
+    if (has_ready_marks(c))
+        buffer_add(&c->svg, ready_style, sizeof ready_style - 1);
+    buffer_add(&c->svg, patterns, sizeof patterns - 1);
     buffer_print(&c->svg, "<rect width=\"%.0f\" height=\"%.0f\" fill=\"#fff\"/>\n",
                  wide, height);
 }
@@ -212,10 +222,14 @@ static void draw_label(struct chart *c, const struct copy *copy, double from, do
 /* A hint for those who point at the copy. */
 static void add_hint(struct chart *c, const struct copy *copy)
 {
-    buffer_print(&c->svg, "<title>%s of task %u: node %u, %u to %u, deadline %u",
+    const struct file *job = &c->in->job;
+
+    buffer_print(&c->svg, "<title>%s of task %u: node %u, %u to %u",
                  copy->backup ? "backup" : "primary", (unsigned)copy->task,
-                 (unsigned)copy->node, (unsigned)copy->start, (unsigned)copy->finish,
-                 (unsigned)job_deadline(&c->in->job, copy->task));
+                 (unsigned)copy->node, (unsigned)copy->start, (unsigned)copy->finish);
+    if (!copy->backup && has_ready(job_version(job)))
+        buffer_print(&c->svg, ", ready %u", (unsigned)job_ready(job, copy->task));
+    buffer_print(&c->svg, ", deadline %u", (unsigned)job_deadline(job, copy->task));
     if (c->o->lose)
         buffer_print(&c->svg, ", %s", outcome_word(outcome(c, copy)));
     buffer_print(&c->svg, "</title>\n");
@@ -242,7 +256,7 @@ static void draw_copy(struct chart *c, size_t i)
     const struct copy *copy = &c->copies[i];
     const char *class = copy->backup ? "backup" : "primary";
     double from = x_of(c, copy->start), to = x_of(c, copy->finish);
-    double top = c->lane[copy->node] + LANE_EDGE + ROW * c->row[i] + (ROW - BAR) / 2.0;
+    double top = bar_top(c, i);
     bool finished = outcome(c, copy) == SEQOPCHI_FINISHED;
 
     buffer_print(&c->svg, "<g>");
@@ -301,5 +315,9 @@ void draw_legend(struct chart *c)
     x = draw_entry(c, x, "shared", "time shared by backups");
     buffer_print(&c->svg, "<path class=\"pole\" d=\"M%.1f %.1fv16\"/>\n", x + 2,
                  legend_top(c));
-    draw_meaning(c, x + 9, "deadline");
+    x = draw_meaning(c, x + 9, "deadline");
+    if (has_ready_marks(c)) {
+        draw_ready_mark(c, x + 8, legend_top(c), 16);
+        draw_meaning(c, x + 15, "ready");
+    }
 }

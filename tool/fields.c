@@ -18,18 +18,20 @@ static struct field field(uint32_t low, uint32_t high, const char *name)
 
 static struct field task_field(const struct file *job, size_t at)
 {
-    size_t row = 4 * (1 + (size_t)job_nodes(job));
-    size_t past = at - task_at(job, 0);
-    size_t task = past / row, column = past % row / 4;
+    size_t row = task_at(job, 1) - task_at(job, 0);
+    uint32_t task = (uint32_t)((at - task_at(job, 0)) / row);
+    size_t deadline = deadline_at(job, task), runs = run_times_at(job, task);
     struct field f = field(0, SEQOPCHI_MAX_TIME, "");
 
-    if (column > 0) {
-        snprintf(f.name, sizeof f.name, "the run time of task %zu on node %zu",
-                 task, column - 1);
+    if (at >= runs) {
+        snprintf(f.name, sizeof f.name, "the run time of task %u on node %zu",
+                 (unsigned)task, (at - runs) / 4);
         return f;
     }
-    f.low = SEQOPCHI_MIN_DEADLINE;
-    snprintf(f.name, sizeof f.name, "the deadline of task %zu", task);
+    if (at == deadline)
+        f.low = SEQOPCHI_MIN_DEADLINE;
+    snprintf(f.name, sizeof f.name, "the %s of task %u",
+             at == deadline ? "deadline" : "ready time", (unsigned)task);
     return f;
 }
 
@@ -53,12 +55,13 @@ struct field job_field(const struct file *job, size_t at)
     struct field f;
 
     if (at == 0)
-        return field(1, 1, "the version");
+        return field(1, SEQOPCHI_NEWEST_JOB_VERSION, "the version");
     if (at == 4)
         return field(SEQOPCHI_MIN_NODES, SEQOPCHI_MAX_NODES, "the node count");
     if (at < task_count_at(job)) {
         f = field(0, SEQOPCHI_MAX_DETECT, "");
-        snprintf(f.name, sizeof f.name, "the detect time of node %zu", (at - 8) / 4);
+        snprintf(f.name, sizeof f.name, "the detect time of node %zu",
+                 (at - node_at(job, 0)) / SEQOPCHI_NODE_BYTES(job_version(job)));
         return f;
     }
     if (at == task_count_at(job))
@@ -79,7 +82,7 @@ struct field plan_field(const struct file *job, size_t at)
     struct field f = field(0, SEQOPCHI_MAX_TIME, "");
 
     if (at == 0)
-        return field(1, 1, "the version");
+        return field(SEQOPCHI_PLAN_VERSION, SEQOPCHI_PLAN_VERSION, "the version");
     if (at == 4)
         return field(job_tasks(job), job_tasks(job), "the task count");
     if (column % 2 == 0)

@@ -1,5 +1,7 @@
-/* Where each number of a job or plan file stands. */
+/* Where each number of a job or plan file stands, by the version of the job. */
 #include "layout.h"
+
+#include "seqopchi.h"
 
 #include <stdlib.h>
 
@@ -15,19 +17,39 @@ uint32_t number_at(const struct file *f, size_t at)
     return b[0] | (uint32_t)b[1] << 8 | (uint32_t)b[2] << 16 | (uint32_t)b[3] << 24;
 }
 
+bool knows_version(uint32_t version)
+{
+    return version >= 1 && version <= SEQOPCHI_NEWEST_JOB_VERSION;
+}
+
+bool has_ready(uint32_t version)
+{
+    return version >= 2;
+}
+
+uint32_t job_version(const struct file *job)
+{
+    return number_at(job, 0);
+}
+
 uint32_t job_nodes(const struct file *job)
 {
     return number_at(job, 4);
 }
 
+size_t node_at(const struct file *job, uint32_t node)
+{
+    return 8 + SEQOPCHI_NODE_BYTES(job_version(job)) * (size_t)node;
+}
+
 uint32_t job_detect(const struct file *job, uint32_t node)
 {
-    return number_at(job, 8 + 4 * (size_t)node);
+    return number_at(job, node_at(job, node));
 }
 
 size_t task_count_at(const struct file *job)
 {
-    return 8 + 4 * (size_t)job_nodes(job);
+    return node_at(job, job_nodes(job));
 }
 
 uint32_t job_tasks(const struct file *job)
@@ -37,17 +59,34 @@ uint32_t job_tasks(const struct file *job)
 
 size_t task_at(const struct file *job, uint32_t task)
 {
-    return task_count_at(job) + 4 + 4 * (size_t)task * (1 + (size_t)job_nodes(job));
+    size_t nodes = job_nodes(job);
+
+    return task_count_at(job) + 4 + SEQOPCHI_TASK_BYTES(job_version(job), nodes) * task;
+}
+
+size_t deadline_at(const struct file *job, uint32_t task)
+{
+    return task_at(job, task) + (has_ready(job_version(job)) ? 4 : 0);
+}
+
+size_t run_times_at(const struct file *job, uint32_t task)
+{
+    return deadline_at(job, task) + 4;
+}
+
+uint32_t job_ready(const struct file *job, uint32_t task)
+{
+    return has_ready(job_version(job)) ? number_at(job, task_at(job, task)) : 0;
 }
 
 uint32_t job_deadline(const struct file *job, uint32_t task)
 {
-    return number_at(job, task_at(job, task));
+    return number_at(job, deadline_at(job, task));
 }
 
 uint32_t job_run_time(const struct file *job, uint32_t task, uint32_t node)
 {
-    return number_at(job, task_at(job, task) + 4 + 4 * (size_t)node);
+    return number_at(job, run_times_at(job, task) + 4 * (size_t)node);
 }
 
 size_t link_count_at(const struct file *job)

@@ -1,5 +1,6 @@
-/* Where each number of a job or plan file stands. The library has said that the
- * file reads well, or that the part before the number read is without fault. */
+/* Where each number of a job or plan file stands, by the version of the job. The
+ * library has said that the file reads well, or that the part before the number
+ * read is without fault. */
 #ifndef TOOL_LAYOUT_H
 #define TOOL_LAYOUT_H
 
@@ -17,17 +18,27 @@ struct link {
 
 uint32_t number_at(const struct file *f, size_t at);
 
+/* Whether this tool knows the form of a job version, and whether that has ready
+ * times. */
+bool knows_version(uint32_t version);
+bool has_ready(uint32_t version);
+
+uint32_t job_version(const struct file *job);
 uint32_t job_nodes(const struct file *job);
 uint32_t job_detect(const struct file *job, uint32_t node);
 uint32_t job_tasks(const struct file *job);
+uint32_t job_ready(const struct file *job, uint32_t task); /* 0 where there is none */
 uint32_t job_deadline(const struct file *job, uint32_t task);
 uint32_t job_run_time(const struct file *job, uint32_t task, uint32_t node);
 uint32_t job_links(const struct file *job);
 struct link job_link(const struct file *job, uint32_t link);
 
-/* Offsets at which the sections and their rows begin. */
+/* Offsets at which the sections, their rows and parts of these begin. */
+size_t node_at(const struct file *job, uint32_t node);
 size_t task_count_at(const struct file *job);
 size_t task_at(const struct file *job, uint32_t task);
+size_t deadline_at(const struct file *job, uint32_t task);
+size_t run_times_at(const struct file *job, uint32_t task);
 size_t link_count_at(const struct file *job);
 size_t link_at(const struct file *job, uint32_t link);
 

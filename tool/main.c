@@ -1,13 +1,14 @@
 /* seqopchi: the command line over judge, planner and replay. */
 #include "commands.h"
 
+#include "seqopchi.h"
 #include "text.h"
 
 #include <signal.h>
 #include <stdio.h>
 #include <string.h>
 
-#define TOOL_VERSION "1.0"
+#define TOOL_VERSION "1.1"
 
 enum { OUTPUT = 1, OUTPUT_DUE = 2, LOSS = 4, JOB = 8 };
 
@@ -43,16 +44,18 @@ static const struct command commands[] = {
       "pack TEXT -o FILE [--job JOB]",
       "make a job or plan file from text",
       "Writes the file that the text stands for; its first word says whether it\n"
-      "is a job or a plan. A job must read well, and so must a plan if its job\n"
-      "is named by --job. The text form is described in tool/TEXT.md.\n" },
+      "is a job or a plan, its second of which version. A job must read well, and\n"
+      "so must a plan if its job is named by --job. The text form is described in\n"
+      "tool/TEXT.md.\n" },
     { "unpack", run_unpack, 1, 2, OUTPUT, "unpack JOB [PLAN] [-o TEXT]",
       "make text from a job or plan file",
-      "Prints the text form of the job or, if a plan is given, of the plan.\n" },
+      "Prints the text form of the job, in its own version, or, if a plan is\n"
+      "given, of the plan.\n" },
     { "chart", run_chart, 2, 2, OUTPUT | OUTPUT_DUE | LOSS,
       "chart JOB PLAN [--lose NODE@TICK] -o FILE.svg",
       "draw a plan, or its run with the loss of a node",
-      "Draws a lane for each node with its copies and deadlines. With --lose it\n"
-      "draws the run: what was finished, cut and not started.\n" },
+      "Draws a lane for each node with its copies, deadlines and ready times. With\n"
+      "--lose it draws the run: what was finished, cut and not started.\n" },
 };
 
 enum { COMMANDS = sizeof commands / sizeof commands[0] };
@@ -62,39 +65,37 @@ static const char closing[] =
     "or not at all. Exit status: 0 success; 1 refused, with the reason on standard\n"
     "error; 2 wrong usage, or a file that could not be read or written.\n";
 
-static int print(const char *text, size_t length)
+static int print(struct buffer *b)
 {
-    return file_write("-", text, length);
+    int status = file_write("-", b->data, b->length);
+
+    buffer_free(b);
+    return status;
 }
 
 static int general_help(void)
 {
     struct buffer b = { NULL, 0, 0 };
-    int status;
 
     buffer_print(&b, "Usage: seqopchi COMMAND FILES..\n"
                      "Rack plans with a standby for every task.\n\n");
     for (int i = 0; i < COMMANDS; i++)
         buffer_print(&b, "  %-47s %s\n", commands[i].usage, commands[i].subject);
     buffer_print(&b, "\n'seqopchi COMMAND --help' tells more of each; "
-                     "'seqopchi --version' tells the version.\n%s", closing);
-    status = print(b.data, b.length);
-    buffer_free(&b);
-    return status;
+                     "'seqopchi --version' tells the version\n"
+                     "and those of the files that it knows.\n%s", closing);
+    return print(&b);
 }
 
 static int command_help(const struct command *c)
 {
     struct buffer b = { NULL, 0, 0 };
-    int status;
 
     buffer_print(&b, "Usage: seqopchi %s\n%s", c->usage, c->help);
     if (!(c->takes & OUTPUT_DUE))
         buffer_print(&b, "-o FILE writes to a file instead of standard output.\n");
     buffer_print(&b, "%s", closing);
-    status = print(b.data, b.length);
-    buffer_free(&b);
-    return status;
+    return print(&b);
 }
 
 static int wrong_usage(const struct command *c, const char *what, const char *word)
@@ -185,18 +186,25 @@ static int run_command(const struct command *c, char **words)
     return status ? status : c->run(&o);
 }
 
+static int print_version(void)
+{
+    struct buffer b = { NULL, 0, 0 };
+
+    buffer_print(&b, "seqopchi %s, for job files of versions 1 to %d and plan files "
+                 "of version %d\n", TOOL_VERSION, SEQOPCHI_NEWEST_JOB_VERSION,
+                 SEQOPCHI_PLAN_VERSION);
+    return print(&b);
+}
+
 int main(int argc, char **argv)
 {
-    static const char version[] = "seqopchi " TOOL_VERSION
-        ", for job and plan files of version 1\n";
-
     signal(SIGPIPE, SIG_IGN); /* a closed pipe is a failed write */
     if (argc < 2)
         return wrong_usage(NULL, "a command is missing", NULL);
     if (strcmp(argv[1], "--help") == 0)
         return general_help();
     if (strcmp(argv[1], "--version") == 0)
-        return print(version, sizeof version - 1);
+        return print_version();
     for (int i = 0; i < COMMANDS; i++)
         if (strcmp(argv[1], commands[i].name) == 0)
             return run_command(&commands[i], argv + 2);

@@ -1,6 +1,7 @@
 /* pack: a job or plan file from its text form (TEXT.md). */
 #include "commands.h"
 
+#include "layout.h"
 #include "refusal.h"
 #include "text.h"
 
@@ -12,6 +13,11 @@ enum { TEXT_LIMIT = 1 << 20 }; /* some twenty times the longest job's text */
 struct section {
     struct buffer numbers, lines;
     size_t entries;
+};
+
+struct job_text {
+    uint32_t version;
+    struct section nodes, tasks, links;
 };
 
 static void add(struct section *s, uint32_t value, unsigned line)
@@ -46,14 +52,29 @@ static void pack_node(struct text *t, struct section *nodes)
     nodes->entries++;
 }
 
-/* task K deadline TICK run TICKS.., one for each node; - is 0 */
-static void pack_task(struct text *t, struct section *tasks, size_t nodes)
+/* Only where the version has it: ready TICK */
+static void pack_ready(struct text *t, struct section *tasks, uint32_t version)
 {
+    if (has_ready(version)) {
+        take_word(t, "ready");
+        add(tasks, take_number(t, "the ready time"), t->line);
+    } else if (took_word(t, "ready")) {
+        text_fault(t, "expected 'deadline', found 'ready': tasks have a ready time "
+                   "from 'job 2' on");
+    }
+}
+
+/* task K ready TICK deadline TICK run TICKS.., one for each node; - is 0 */
+static void pack_task(struct text *t, struct job_text *job)
+{
+    struct section *tasks = &job->tasks;
+
     take_index(t, "task", tasks->entries);
+    pack_ready(t, tasks, job->version);
     take_word(t, "deadline");
     add(tasks, take_number(t, "the deadline"), t->line);
     take_word(t, "run");
-    for (size_t node = 0; node < nodes && !t->wrong; node++) {
+    for (size_t node = 0; node < job->nodes.entries && !t->wrong; node++) {
         if (took_word(t, "-"))
             add(tasks, 0, t->line);
         else
@@ -92,33 +113,38 @@ static void pack_place(struct text *t, struct section *places)
 }
 
 /* The sections stand in the file's order: no line of an earlier one comes back. */
-static void pack_job_line(struct text *t, struct section *nodes,
-                          struct section *tasks, struct section *links)
+static void pack_job_line(struct text *t, struct job_text *job)
 {
-    if (tasks->entries == 0 && took_word(t, "node"))
-        pack_node(t, nodes);
-    else if (links->entries == 0 && took_word(t, "task"))
-        pack_task(t, tasks, nodes->entries);
+    if (job->tasks.entries == 0 && took_word(t, "node"))
+        pack_node(t, &job->nodes);
+    else if (job->links.entries == 0 && took_word(t, "task"))
+        pack_task(t, job);
     else if (took_word(t, "link"))
-        pack_link(t, links);
+        pack_link(t, &job->links);
     else
         text_fault(t, "expected a line that begins with %s",
-                   links->entries ? "'link'" : tasks->entries ? "'task' or 'link'"
+                   job->links.entries ? "'link'"
+                   : job->tasks.entries ? "'task' or 'link'"
                    : "'node', 'task' or 'link'");
 }
 
-static void pack_job(struct text *t, struct section *file)
+/* The lines of a version that this tool does not know are left alone: the library
+ * refuses the version, which it reads first. */
+static void pack_job(struct text *t, struct section *file, uint32_t version)
 {
-    struct section nodes = { 0 }, tasks = { 0 }, links = { 0 };
+    struct job_text job = { 0 };
 
+    if (!knows_version(version))
+        return;
+    job.version = version;
     while (next_line(t))
-        pack_job_line(t, &nodes, &tasks, &links);
-    append(file, &nodes);
-    append(file, &tasks);
-    append(file, &links);
-    free_section(&nodes);
-    free_section(&tasks);
-    free_section(&links);
+        pack_job_line(t, &job);
+    append(file, &job.nodes);
+    append(file, &job.tasks);
+    append(file, &job.links);
+    free_section(&job.nodes);
+    free_section(&job.tasks);
+    free_section(&job.links);
 }
 
 static void pack_plan(struct text *t, struct section *file)
@@ -137,6 +163,7 @@ static void pack_plan(struct text *t, struct section *file)
 static bool pack_text(struct text *t, struct section *file)
 {
     bool is_job;
+    uint32_t version;
 
     if (!next_line(t)) {
         text_fault(t, "expected 'job' or 'plan', but the text ends");
@@ -145,10 +172,11 @@ static bool pack_text(struct text *t, struct section *file)
     is_job = took_word(t, "job");
     if (!is_job && !took_word(t, "plan"))
         text_fault(t, "expected 'job' or 'plan' as the first word");
-    add(file, take_number(t, "the version"), t->line);
+    version = take_number(t, "the version");
+    add(file, version, t->line);
     take_line_end(t);
     if (is_job)
-        pack_job(t, file);
+        pack_job(t, file, version);
     else
         pack_plan(t, file);
     return is_job;

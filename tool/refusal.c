@@ -95,27 +95,45 @@ static void add_fault(struct buffer *b, uint64_t result, const struct file *job,
         add_limits(b, &field);
 }
 
-/* 8 to 16 name tasks: the first stands behind head, the second behind middle. */
+/* The refusals that name tasks, by number: the first task stands behind head, the
+ * second behind middle. */
 static const struct {
     const char *head, *middle, *tail;
 } rule_words[] = {
+    [SEQOPCHI_REFUSED_SAME_NODE] =
     { "task ", " has its primary and its backup on one node", NULL },
+    [SEQOPCHI_REFUSED_EARLY] =
     { "the backup of task ", " starts before its primary's finish plus the detect "
       "time of the primary's node", NULL },
+    [SEQOPCHI_REFUSED_LATE] =
     { "the backup of task ", " finishes after the deadline", NULL },
+    [SEQOPCHI_REFUSED_PRIMARY_UNFED] =
     { "the result of task ", "'s primary arrives after the start of task ",
       "'s primary" },
+    [SEQOPCHI_REFUSED_BACKUP_UNFED] =
     { "a result of task ", " arrives after the start of task ", "'s backup" },
+    [SEQOPCHI_REFUSED_COMMON_LOSS] =
     { "the loss of one node can stop both copies of task ", "", NULL },
+    [SEQOPCHI_REFUSED_OVERLAP] =
     { "a copy of task ", " and a copy of task ",
       " hold one node at the same time" },
+    [SEQOPCHI_REFUSED_NO_PRIMARY] =
     { "no node has a place for the primary of task ", "", NULL },
+    [SEQOPCHI_REFUSED_NO_BACKUP] =
     { "no node has a place for the backup of task ", "", NULL },
+    [SEQOPCHI_REFUSED_TOO_SOON] =
+    { "the primary of task ", " starts before the task's ready time", NULL },
 };
+
+static bool names_tasks(unsigned number)
+{
+    return number < sizeof rule_words / sizeof rule_words[0]
+        && rule_words[number].head;
+}
 
 static void add_broken_rule(struct buffer *b, uint64_t result)
 {
-    unsigned rule = seqopchi_number(result) - SEQOPCHI_REFUSED_SAME_NODE;
+    unsigned rule = seqopchi_number(result);
 
     buffer_print(b, "%s%u%s", rule_words[rule].head,
                  (unsigned)seqopchi_first(result), rule_words[rule].middle);
@@ -139,7 +157,7 @@ void refusal_text(struct buffer *b, uint64_t result,
     buffer_print(b, "refused %u (%s): ", number, seqopchi_word(number));
     if (number < SEQOPCHI_REFUSED_SAME_NODE)
         add_fault(b, result, job, plan && ask_job(job) == 0 ? plan : job);
-    else if (number <= SEQOPCHI_REFUSED_NO_BACKUP)
+    else if (names_tasks(number))
         add_broken_rule(b, result);
     else if (number == SEQOPCHI_REFUSED_NO_SUCH_NODE)
         add_no_such_node(b, job, first);

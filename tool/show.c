@@ -16,17 +16,31 @@ static void add_nodes(struct buffer *b, const struct file *job)
                      (unsigned)job_detect(job, node));
 }
 
+/* Tables of tasks begin with the task and, where the job has it, its ready time. */
+static void add_task_head(struct buffer *b, const struct file *job)
+{
+    buffer_print(b, "\ntask%s", has_ready(job_version(job)) ? "    ready" : "");
+}
+
+static void add_task(struct buffer *b, const struct file *job, uint32_t task)
+{
+    buffer_print(b, "%4u", (unsigned)task);
+    if (has_ready(job_version(job)))
+        buffer_print(b, "  %7u", (unsigned)job_ready(job, task));
+}
+
 static void add_tasks(struct buffer *b, const struct file *job)
 {
     uint32_t nodes = job_nodes(job), tasks = job_tasks(job);
 
-    buffer_print(b, "\ntask  deadline  run time on");
+    add_task_head(b, job);
+    buffer_print(b, "  deadline  run time on");
     for (uint32_t node = 0; node < nodes; node++)
         buffer_print(b, node ? "  %7u" : " node %u", (unsigned)node);
     buffer_print(b, "\n");
     for (uint32_t task = 0; task < tasks; task++) {
-        buffer_print(b, "%4u  %8u           ", (unsigned)task,
-                     (unsigned)job_deadline(job, task));
+        add_task(b, job, task);
+        buffer_print(b, "  %8u           ", (unsigned)job_deadline(job, task));
         for (uint32_t node = 0; node < nodes; node++) {
             uint32_t run = job_run_time(job, task, node);
 
@@ -81,16 +95,17 @@ static void add_places(struct buffer *b, const struct input *in)
 {
     uint32_t tasks = job_tasks(&in->job);
 
-    buffer_print(b, "\ntask  primary on     from       to"
+    add_task_head(b, &in->job);
+    buffer_print(b, "  primary on     from       to"
                     "  backup on     from       to  deadline\n");
     for (uint32_t task = 0; task < tasks; task++) {
         struct copy p = plan_copy(&in->job, &in->plan, task, 0);
         struct copy q = plan_copy(&in->job, &in->plan, task, 1);
 
-        buffer_print(b, "%4u  %10u  %7u  %7u  %9u  %7u  %7u  %8u\n",
-                     (unsigned)task, (unsigned)p.node, (unsigned)p.start,
-                     (unsigned)p.finish, (unsigned)q.node, (unsigned)q.start,
-                     (unsigned)q.finish,
+        add_task(b, &in->job, task);
+        buffer_print(b, "  %10u  %7u  %7u  %9u  %7u  %7u  %8u\n",
+                     (unsigned)p.node, (unsigned)p.start, (unsigned)p.finish,
+                     (unsigned)q.node, (unsigned)q.start, (unsigned)q.finish,
                      (unsigned)job_deadline(&in->job, task));
     }
 }

@@ -106,16 +106,17 @@ task  primary      backup        finish  deadline
     good show j
     check 'show tells the run times' has out '   1        30                   3        3        3'
     check 'show without a plan' eval '! has out plan'
+    check 'no ready times in version 1' eval '! has out ready'
     good show j p
     check 'show tells the verdict' has out 'plan, by the judge: passed'
     check 'show tells the lanes' has out '        9 to      12  backup  of task 1'
 }
 
-maximum_job() { # a job of the greatest counts, as text
-    echo 'job 1'
+maximum_job() { # maximum_job VERSION READY: a job of the greatest counts, as text
+    echo "job $1"
     for ((n = 0; n < 16; n++)); do echo "node $n detect 1000"; done
     for ((t = 0; t < 64; t++)); do
-        echo "task $t deadline 1000000 run 1 2 3 4 5 6 7 8 9 10 11 12 13 14 15 1000000"
+        echo "task $t $2 deadline 1000000 run 1 2 3 4 5 6 7 8 9 10 11 12 13 14 15 1000000"
     done
     for ((t = 0, k = 0; k < 512; t++)); do
         for ((u = t + 1; u < 64 && u < t + 10 && k < 512; u++, k++)); do
@@ -147,21 +148,31 @@ block() { # block NUMBER FILE: a block between fences
     awk -v want="$1" '/^```/ { fences++; next } fences == 2 * want - 1' "$2"
 }
 
+longest_job() { # longest_job TEXT BYTES
+    round_trip "$1"
+    check "the length of $1" test "$(wc -c <t.job)" -eq "$2"
+    good chart t.job t.plan -o t.svg
+    good chart t.job t.plan --lose 0@100 -o t.svg
+    good show t.job t.plan
+}
+
 round_trip_tests() {
-    maximum_job >max.txt
+    maximum_job 1 '' >max.txt
+    maximum_job 2 'ready 1000' >max2.txt
     block 1 "$home/tool/TEXT.md" >described.txt
-    block 2 "$home/tool/TEXT.md" >described-plan.txt
+    block 2 "$home/tool/TEXT.md" >described2.txt
+    block 3 "$home/tool/TEXT.md" >described-plan.txt
     round_trip described.txt described-plan.txt
+    round_trip described2.txt described-plan.txt
+    round_trip described2.txt
     round_trip "$home/examples/sample.txt"
+    round_trip "$home/examples/lessons.txt"
     round_trip "$home/examples/slow-links.txt"
     round_trip "$home/examples/oscilloscope.txt"
     round_trip "$home/examples/oscilloscope.txt" "$home/examples/oscilloscope-refused.txt"
     round_trip "$home/examples/oscilloscope.txt" "$home/examples/oscilloscope-passed.txt"
-    round_trip max.txt
-    check 'the longest job' test "$(wc -c <t.job)" -eq 10576
-    good chart t.job t.plan -o t.svg
-    good chart t.job t.plan --lose 0@100 -o t.svg
-    good show t.job t.plan
+    longest_job max.txt 10576
+    longest_job max2.txt 10832
     printf 'job\t1\r\n\r\n  node 0 detect 1#x\nnode 1 detect 1\ntask 0 deadline 9 run 007 -' >odd.txt
     good pack odd.txt -o odd.job
     good unpack odd.job
@@ -189,6 +200,10 @@ example_tests() {
     good pack "$home/examples/slow-links.txt" -o s.job
     good list s.job
     check 'backup 2 does not wait for backup 1' cmp -s out <(lines 'task primary at backup at' '0 0 0 1 3' '1 1 0 0 3' '2 0 8 1 10')
+    good pack "$home/examples/lessons.txt" -o l.job
+    good plan l.job -o l.plan
+    good chart l.job l.plan -o -
+    check 'the chart of the lessons' cmp -s out "$home/examples/lessons-plan.svg"
 }
 
 # --- refusals, one of each number -------------------------------------------------
@@ -207,8 +222,8 @@ plan_of() { # plan_of PLACES PLACES: two tasks, each: node start node start
 }
 
 job_fault_tests() {
-    job_text 's/^job 1/job 2/'
-    refuses "2 (version): line 2 of 'x.txt', the version (byte 0 when packed), is 2; it must be 1" pack x.txt -o x
+    job_text 's/^job 1/job 0/'
+    refuses "2 (version): line 2 of 'x.txt', the version (byte 0 when packed), is 0; it must be from 1 to 2" pack x.txt -o x
     job_text '/^node/d; s/run.*/run/'
     refuses "3 (count): 'x.txt', the node count (byte 4 when packed), is 0; it must be from 2 to 16" pack x.txt -o x
     job_text 's/node 1 detect 1/node 1 detect 1001/'
@@ -246,7 +261,10 @@ plan_fault_tests() {
     refuses "1 (short): 'x' has fewer than 4 bytes left at byte 20, for the backup start of task 0" replay j x
     bytes_of j
     write_bytes x 07 "${bytes[@]:1}"
-    refuses "2 (version): byte 0 of 'x', the version, is 7; it must be 1" judge x p
+    refuses "2 (version): byte 0 of 'x', the version, is 7; it must be from 1 to 2" judge x p
+    bytes_of p
+    write_bytes x 02 "${bytes[@]:1}"
+    refuses "2 (version): byte 0 of 'x', the version, is 2; it must be 1" judge j x
     lines 'plan 1' 'task 0 primary 0 at 0 backup 1 at 5' >x.txt
     refuses "3 (count): 'x.txt', the task count (byte 4 when packed), is 1; it must be 2" pack x.txt --job j -o x.plan
     plan_of '0 0 3 5' '0 4 1 9'
@@ -298,6 +316,183 @@ rule_tests() {
     check 'the refused listing of sample 9' cmp -s out <(lines 'refused 16 1 1')
 }
 
+# --- ready times: sample J in version 2 -------------------------------------------
+
+later_text() { # later_text READY READY [SED]: into x.txt
+    sed "s/^job 1/job 2/; s/^task 0/& ready $1/; s/^task 1/& ready $2/; ${3-}" "$home/examples/sample.txt" >x.txt
+}
+
+later() { # later READY READY [SED]: into the file r
+    later_text "$@"
+    good pack x.txt -o r
+}
+
+ready_tests() {
+    later 0 4
+    good judge r p
+    good list r
+    check 'ready in time' cmp -s out <("$tool" list j)
+    good unpack r
+    check 'the text of version 2' cmp -s out <(grep '^[^#]' x.txt)
+    later 2 12
+    good list r
+    check 'each primary waits, no backup' cmp -s out <(lines 'task primary at backup at' '0 0 2 1 7' '1 0 12 1 16')
+    good plan r -o r.plan
+    good judge r r.plan
+    good unpack r r.plan
+    check 'a plan stays in version 1' has out 'plan 1'
+    good show r r.plan
+    check 'show tells the ready times' has out '
+task    ready  deadline  run time on node 0        1        2
+   0        2        30                   4        4        4
+   1       12        30                   3        3        3
+'
+    check 'show tells them with the places' has out '
+task    ready  primary on     from       to  backup on     from       to  deadline
+   0        2           0        2        6          1        7       11        30
+   1       12           0       12       15          1       16       19        30
+'
+    later 0 28
+    refuses '15 (no primary): no node has a place for the primary of task 1' plan r -o y
+    later 0 1000000
+    refuses '15 (no primary): no node has a place for the primary of task 1' plan r -o y
+    ready_rule_tests
+    ready_replay_tests
+}
+
+too_soon='starts before the task'\''s ready time'
+ready_rule_tests() {
+    later 0 5
+    refuses "19 (too soon): the primary of task 1 $too_soon" judge r p
+    good show r p
+    check 'show tells the refusal' has out "plan, by the judge: refused 19 (too soon): the primary of task 1 $too_soon"
+    later 1 5
+    refuses "19 (too soon): the primary of task 0 $too_soon" judge r p
+    plan_of '0 0 1 5' '0 4 0 9'
+    refuses '8 (same node): task 1 has its primary and its backup on one node' judge r x.plan
+    plan_of '0 0 1 4' '0 4 1 9'
+    refuses "19 (too soon): the primary of task 0 $too_soon" judge r x.plan
+    later 0 5
+    refuses "19 (too soon): the primary of task 1 $too_soon" judge r x.plan
+    later 0 4
+    refuses "9 (early): the backup of task 0 starts before its primary's finish plus the detect time of the primary's node" judge r x.plan
+}
+
+ready_replay_tests() { # of the plan of version 1: primary 1 starts at 4, backup 1 at 9
+    later 0 4
+    good replay r p
+    check 'a primary starts at its ready time' has out '   1  finished     not started        7        30'
+    later 0 20
+    good replay r p
+    check 'a primary too soon does not start' is out 'no loss
+task  primary      backup        finish  deadline
+   0  finished     not started        4        30
+   1  not started  finished          12        30'
+    good replay r p --lose 1@10
+    check 'nor with a loss' has out '   1  not started  cut             none        30'
+    later 10 0
+    good replay r p
+    check 'what it feeds waits for its backup' has out '   0  not started  finished           9        30
+   1  not started  finished          12        30'
+}
+
+# The marks of a chart: a post and, where the primary starts at another tick, a line.
+marks() { [[ $(grep -c 'class="ready" d=' out) -eq $1 && $(grep -c 'class="wait" d=' out) -eq $2 ]]; }
+
+ready_chart_tests() {
+    good chart j p -o -
+    check 'no mark in version 1' eval '! has out ready && ! has out wait'
+    later 0 0
+    good chart r p -o -
+    check 'no mark at 0' marks 0 0
+    check 'nor a word of it in the legend' eval '! has out ">ready<"'
+    later 0 4
+    good chart r p -o -
+    check 'a mark, and one in the legend' marks 2 0
+    check 'its word' has out '>ready</text>'
+    check 'the mark stands at the start of its bar' mark_at 4
+    check 'the hint of a primary' has out '<title>primary of task 1: node 0, 4 to 7, ready 4, deadline 30</title>'
+    check 'the hint of a backup' has out '<title>backup of task 1: node 1, 9 to 12, deadline 30</title>'
+    later 0 3
+    good chart r p -o -
+    check 'a line to a later start' marks 2 1
+    check 'the mark stands before its bar' mark_at 3
+    later 0 25
+    good chart r p --lose 0@5 -o -
+    check 'a line to a start too soon' marks 2 1
+    check 'the mark stands behind its bar' mark_at 25
+    check 'the chart tells the refusal' has out "refused 19 (too soon): the primary of task 1 $too_soon"
+    later 0 1000000
+    good chart r p -o -
+    check 'a mark behind the axis is left out' marks 0 0
+}
+
+mark_at() { # mark_at TICK: of an axis that ends at 30, 880 pixels behind 92
+    has out "class=\"ready\" d=\"M$(awk -v t="$1" 'BEGIN { printf "%.1f", 92 + 880 * t / 30 - 1 }') "
+}
+
+# The numbers of sample J in version 2, in file order.
+later_fields() {
+    local task node
+    lines 'the version' 'the node count'
+    for node in 0 1 2; do echo "the detect time of node $node"; done
+    echo 'the task count'
+    for task in 0 1; do
+        lines "the ready time of task $task" "the deadline of task $task"
+        for node in 0 1 2; do echo "the run time of task $task on node $node"; done
+    done
+    lines 'the link count' 'the from of link 0' 'the to of link 0' 'the delay of link 0'
+}
+
+ready_file_tests() {
+    local at=0 name version
+    later 2 12
+    while read -r name; do
+        for rest in 0 3; do
+            head -c $((at + rest)) r >x
+            refuses "1 (short): 'x' has fewer than 4 bytes left at byte $at, for $name" list x
+        done
+        at=$((at + 4))
+    done < <(later_fields)
+    check 'the length of the job' test "$at" -eq "$(wc -c <r)"
+    { cat r; printf x; } >x
+    refuses "6 (tail): byte 80 of 'x' follows the last section, where the file must end" judge x p
+    for version in 0 3 4 258 4294967295; do
+        bytes_of r
+        write_bytes x $(printf '%02x ' $((version & 255)) $((version >> 8 & 255)) $((version >> 16 & 255)) $((version >> 24))) "${bytes[@]:4}"
+        refuses "2 (version): byte 0 of 'x', the version, is $version; it must be from 1 to 2" show x
+    done
+    write_bytes x 01 "${bytes[@]:1}"
+    refuses "4 (value): byte 60 of 'x', the from of link 0, is 3; it must be from 0 to 1" unpack x
+    bytes_of j
+    write_bytes x 02 "${bytes[@]:1}"
+    refuses "4 (value): byte 68 of 'x', the from of link 0, is 2; it must be from 0 to 1" unpack x
+}
+
+ready_text_tests() {
+    later_text 1000001 0
+    refuses "4 (value): line 8 of 'x.txt', the ready time of task 0 (byte 24 when packed), is 1000001; it must be from 0 to 1000000" pack x.txt -o y
+    later_text 0 4294967295
+    refuses "4 (value): line 9 of 'x.txt', the ready time of task 1 (byte 44 when packed), is 4294967295; it must be from 0 to 1000000" pack x.txt -o y
+    later_text 0 0 's/deadline 30 run 3/deadline 0 run 3/'
+    refuses "4 (value): line 9 of 'x.txt', the deadline of task 1 (byte 48 when packed), is 0; it must be from 1 to 1000000" pack x.txt -o y
+    job_text 's/^task 1/& ready 5/'
+    wrong "'x.txt', line 9: expected 'deadline', found 'ready': tasks have a ready time from 'job 2' on" pack x.txt -o y
+    job_text 's/^job 1/job 2/'
+    wrong "'x.txt', line 8: expected 'ready', found 'deadline'" pack x.txt -o y
+    later_text 0 ''
+    wrong "'x.txt', line 9: expected the ready time, found 'deadline'" pack x.txt -o y
+    later_text 0 -5
+    wrong "'x.txt', line 9: expected the ready time, found '-5'" pack x.txt -o y
+    later_text 0 0 's/ready 0 \(deadline 30\) run 3/\1 ready 0 run 3/'
+    wrong "'x.txt', line 9: expected 'ready', found 'deadline'" pack x.txt -o y
+    later_text 0 0 's/^job 2/job 3/; s/^node .*/& words of another version/'
+    refuses "2 (version): line 2 of 'x.txt', the version (byte 0 when packed), is 3; it must be from 1 to 2" pack x.txt -o y
+    check 'no file after a refusal' test ! -e y
+    lines 'plan 2' 'task 0 primary 0 at 0 backup 1 at 5' 'task 1 primary 0 at 4 backup 1 at 9' >x.txt
+    refuses "2 (version): line 1 of 'x.txt', the version (byte 0 when packed), is 2; it must be 1" pack x.txt --job r -o y
+}
+
 # --- damaged files ----------------------------------------------------------------
 
 # Each damaged pair goes to some of the commands in turn: none may end in another way
@@ -330,31 +525,44 @@ ended_well() {
 }
 
 damage_tests() {
+    later 2 12
+    good plan r -o r.plan
+    damaged_job j p 3
+    damaged_job r r.plan 5
+    damaged_plan o.job o.plan
+}
+
+damaged_job() { # damaged_job JOB PLAN STEP: cut, with a tail, and each so many bits with one turned
     local length bit
-    bytes_of o.plan
-    local plan=("${bytes[@]}")
-    bytes_of j
+    bytes_of "$1"
     for ((length = 0; length < ${#bytes[@]}; length++)); do
         write_bytes d.job "${bytes[@]:0:length}"
-        damaged_pair d.job p 1
-    done
-    for ((length = 0; length < ${#plan[@]}; length += 3)); do
-        write_bytes d.plan "${plan[@]:0:length}"
-        damaged_pair o.job d.plan 1
+        damaged_pair d.job "$2" 1
     done
     for ((length = 1; length < 9; length++)); do
         write_bytes d.job "${bytes[@]}" "${bytes[@]:0:length}"
-        damaged_pair d.job p 1
-        write_bytes d.plan "${plan[@]}" "${plan[@]:0:length}"
-        damaged_pair o.job d.plan 1
+        damaged_pair d.job "$2" 1
     done
-    for ((bit = 0; bit < 8 * ${#bytes[@]}; bit += 3)); do
+    for ((bit = 0; bit < 8 * ${#bytes[@]}; bit += $3)); do
         flip d.job $bit "${bytes[@]}"
-        damaged_pair d.job p 1
+        damaged_pair d.job "$2" 1
     done
-    for ((bit = 0; bit < 8 * ${#plan[@]}; bit += 11)); do
-        flip d.plan $bit "${plan[@]}"
-        damaged_pair o.job d.plan 1
+}
+
+damaged_plan() { # damaged_plan JOB PLAN
+    local length bit
+    bytes_of "$2"
+    for ((length = 0; length < ${#bytes[@]}; length += 3)); do
+        write_bytes d.plan "${bytes[@]:0:length}"
+        damaged_pair "$1" d.plan 1
+    done
+    for ((length = 1; length < 9; length++)); do
+        write_bytes d.plan "${bytes[@]}" "${bytes[@]:0:length}"
+        damaged_pair "$1" d.plan 1
+    done
+    for ((bit = 0; bit < 8 * ${#bytes[@]}; bit += 11)); do
+        flip d.plan $bit "${bytes[@]}"
+        damaged_pair "$1" d.plan 1
     done
 }
 
@@ -369,16 +577,20 @@ flip() { # flip FILE BIT BYTE..
 # A damaged text is packed, refused, or ends with a message that names its line.
 text_damage_tests() {
     local position
-    bytes_of "$home/examples/sample.txt"
-    for ((position = 0; position < ${#bytes[@]}; position += 3)); do
-        write_bytes d.txt "${bytes[@]:0:position}"
-        damaged_text
-        flip d.txt $((8 * position + position % 8)) "${bytes[@]}"
-        damaged_text
+    later_text 2 12
+    for source in "$home/examples/sample.txt" x.txt; do
+        bytes_of "$source"
+        for ((position = 0; position < ${#bytes[@]}; position += 3)); do
+            write_bytes d.txt "${bytes[@]:0:position}"
+            damaged_text
+            flip d.txt $((8 * position + position % 8)) "${bytes[@]}"
+            damaged_text
+        done
     done
     for text in '' '#' 'job' 'job one' 'plan 1' 'job 4294967296' 'job 1 1' 'Job 1' 'plan 1\ntask 1' 'job 1\nnode 1 detect 1' \
         'job 1\nnode 0 detect' 'job 1\ntask 0 deadline 1 run\nnode 0 detect 1' 'job 1\nlink 0 to 1 delay -1' 'job 1\n\0' \
-        'plan 1\ntask 0 primary 0 at 0 backup 1 at 5 6' 'job 1\nnode 0 detect 1\nnode 1 detect 1\ntask 0 deadline 1 run 1'; do
+        'plan 1\ntask 0 primary 0 at 0 backup 1 at 5 6' 'job 1\nnode 0 detect 1\nnode 1 detect 1\ntask 0 deadline 1 run 1' \
+        'job 2' 'job 3' 'job 2\ntask 0 ready' 'job 2\ntask 0 ready 1 ready 1' 'job 2\ntask 0 ready - deadline 1 run' 'job 1\ntask 0 ready 0 deadline 1 run'; do
         printf "$text" >d.txt
         damaged_text
         check "no text: $text" test $status -ne 0 -o "$text" = 'plan 1'
@@ -423,7 +635,7 @@ usage_tests() {
     done
     good --help
     good --version
-    check 'version' has out 'seqopchi '
+    check 'version' is out 'seqopchi 1.1, for job files of versions 1 to 2 and plan files of version 1'
     for command in plan judge replay list show pack unpack chart; do
         check "help lists $command" has <("$tool" --help) "  $command "
         good "$command" --help
@@ -437,7 +649,7 @@ input_tests() {
     wrong "cannot read 'none'" judge j none
     wrong "cannot read 'none'" pack "$home/examples/oscilloscope-passed.txt" --job none -o y
     wrong 'longer than' pack /dev/zero -o y
-    refuses "2 (version): byte 0 of '/dev/zero', the version, is 0; it must be 1" list /dev/zero
+    refuses "2 (version): byte 0 of '/dev/zero', the version, is 0; it must be from 1 to 2" list /dev/zero
     "$tool" list - <j >out 2>err
     check 'a job from standard input' is out "$("$tool" list j)"
     "$tool" judge j - <p >out 2>err
@@ -528,7 +740,7 @@ week_step() {
     check "as printed: $command" cmp -s out <(printf %s "$want")
 }
 
-for group in sample round_trip example job_fault plan_fault rule usage input output week demo; do
+for group in sample round_trip example job_fault plan_fault rule ready ready_chart ready_file ready_text usage input output week demo; do
     "${group}_tests"
 done
 ASAN_OPTIONS+=:detect_leaks=0 # half the time; leaks were looked for up to here

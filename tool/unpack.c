@@ -4,27 +4,35 @@
 #include "layout.h"
 #include "seqopchi.h"
 
+static void add_task_text(struct buffer *b, const struct file *job, uint32_t task)
+{
+    uint32_t nodes = job_nodes(job);
+
+    buffer_print(b, "task %u", (unsigned)task);
+    if (has_ready(job_version(job)))
+        buffer_print(b, " ready %u", (unsigned)job_ready(job, task));
+    buffer_print(b, " deadline %u run", (unsigned)job_deadline(job, task));
+    for (uint32_t node = 0; node < nodes; node++) {
+        uint32_t run = job_run_time(job, task, node);
+
+        if (run > 0)
+            buffer_print(b, " %u", (unsigned)run);
+        else
+            buffer_print(b, " -");
+    }
+    buffer_print(b, "\n");
+}
+
 static void add_job_text(struct buffer *b, const struct file *job)
 {
     uint32_t nodes = job_nodes(job), tasks = job_tasks(job), links = job_links(job);
 
-    buffer_print(b, "job %u\n", (unsigned)number_at(job, 0));
+    buffer_print(b, "job %u\n", (unsigned)job_version(job));
     for (uint32_t node = 0; node < nodes; node++)
         buffer_print(b, "node %u detect %u\n", (unsigned)node,
                      (unsigned)job_detect(job, node));
-    for (uint32_t task = 0; task < tasks; task++) {
-        buffer_print(b, "task %u deadline %u run", (unsigned)task,
-                     (unsigned)job_deadline(job, task));
-        for (uint32_t node = 0; node < nodes; node++) {
-            uint32_t run = job_run_time(job, task, node);
-
-            if (run > 0)
-                buffer_print(b, " %u", (unsigned)run);
-            else
-                buffer_print(b, " -");
-        }
-        buffer_print(b, "\n");
-    }
+    for (uint32_t task = 0; task < tasks; task++)
+        add_task_text(b, job, task);
     for (uint32_t k = 0; k < links; k++) {
         struct link link = job_link(job, k);
 

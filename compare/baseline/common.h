@@ -11,10 +11,13 @@
 enum { MAX_NODES = 16, MAX_TASKS = 64, MAX_LINKS = 512 };
 enum { MAX_DETECT = 1000, MAX_TIME = 1000000 };
 
+/* The newest version of a job. A plan has version 1 only. */
+enum { NEWEST = 2 };
+
 enum refusal {
     SHORT = 1, VERSION, COUNT, VALUE, LINK_ORDER, TAIL, UNABLE, SAME_NODE, EARLY, LATE,
     PRIMARY_UNFED, BACKUP_UNFED, COMMON_LOSS, OVERLAP, NO_PRIMARY, NO_BACKUP, SHORT_BUFFER,
-    NO_SUCH_NODE
+    NO_SUCH_NODE, TOO_SOON
 };
 
 struct link { uint32_t from, to, delay; };
@@ -22,6 +25,7 @@ struct link { uint32_t from, to, delay; };
 struct job {
     uint32_t nodes, tasks, links;
     uint32_t detect[MAX_NODES];
+    uint32_t ready[MAX_TASKS];
     uint32_t deadline[MAX_TASKS];
     uint32_t run[MAX_TASKS][MAX_NODES];
     struct link link[MAX_LINKS];
@@ -77,11 +81,16 @@ static uint64_t read_nodes(struct file *file, struct job *job)
     return refused;
 }
 
-static uint64_t read_tasks(struct file *file, struct job *job)
+/* Ready times are there from version 2 on. */
+static uint64_t read_tasks(struct file *file, uint32_t version, struct job *job)
 {
     uint64_t refused = read_within(file, 1, MAX_TASKS, COUNT, &job->tasks);
     for (uint32_t task = 0; !refused && task < job->tasks; task++) {
-        refused = read_within(file, 1, MAX_TIME, VALUE, &job->deadline[task]);
+        job->ready[task] = 0;
+        if (version >= 2)
+            refused = read_within(file, 0, MAX_TIME, VALUE, &job->ready[task]);
+        if (!refused)
+            refused = read_within(file, 1, MAX_TIME, VALUE, &job->deadline[task]);
         for (uint32_t node = 0; !refused && node < job->nodes; node++)
             refused = read_within(file, 0, MAX_TIME, VALUE, &job->run[task][node]);
     }
@@ -122,11 +131,11 @@ static uint64_t read_end(const struct file *file)
 static uint64_t read_job(struct file file, struct job *job)
 {
     uint32_t version;
-    uint64_t refused = read_within(&file, 1, 1, VERSION, &version);
+    uint64_t refused = read_within(&file, 1, NEWEST, VERSION, &version);
     if (!refused)
         refused = read_nodes(&file, job);
     if (!refused)
-        refused = read_tasks(&file, job);
+        refused = read_tasks(&file, version, job);
     if (!refused)
         refused = read_links(&file, job);
     if (!refused)
@@ -187,6 +196,12 @@ static int overlap(const struct copy *a, const struct copy *b)
     return a->node == b->node && a->start < b->finish && b->start < a->finish;
 }
 
+/* A primary starts no sooner than its task is ready (request (ii)); a backup is not asked. */
+static int after_ready(const struct job *job, uint32_t task, const struct copy *primary)
+{
+    return job->ready[task] <= primary->start;
+}
+
 static int after_detection(const struct job *job, const struct copy *primary,
                            const struct copy *backup)
 {
@@ -198,6 +213,9 @@ static uint64_t judge_tasks(const struct job *job, const struct layout *plan)
     for (uint32_t task = 0; task < job->tasks; task++)
         if (plan->primary[task].node == plan->backup[task].node)
             return refuse(SAME_NODE, task, task);
+    for (uint32_t task = 0; task < job->tasks; task++)
+        if (!after_ready(job, task, &plan->primary[task]))
+            return refuse(TOO_SOON, task, task);
     for (uint32_t task = 0; task < job->tasks; task++)
         if (!after_detection(job, &plan->primary[task], &plan->backup[task]))
             return refuse(EARLY, task, task);
@@ -242,7 +260,7 @@ static uint64_t judge_nodes(const struct job *job, const struct layout *plan,
 static uint64_t judge_primary_inputs(const struct job *job, const struct layout *plan,
                                      uint32_t *faults);
 
-/* Rules A to G in turn. */
+/* The ready times after rule A, then rules B to G in turn. */
 static uint64_t judge_plan(const struct job *job, const struct layout *plan)
 {
     uint32_t faults[MAX_TASKS];

@@ -97,6 +97,9 @@ static void wait_for(const struct draft *draft, const struct copy *sender, uint3
 static int place_primary(struct draft *draft, uint32_t task)
 {
     uint32_t ready[MAX_NODES] = { 0 };
+    /* The ready time is waited for like a result; with no delay, its node is no matter. */
+    struct copy capture = { 0, 0, draft->job.ready[task] };
+    wait_for(draft, &capture, 0, ready);
     for (uint32_t i = 0; i < draft->job.links; i++) {
         const struct link *link = &draft->job.link[i];
         if (link->to == task)
@@ -176,7 +179,7 @@ static const struct copy *run_task(const struct run *run, const struct copy *con
 {
     const struct copy *primary = &run->plan.primary[task], *backup = &run->plan.backup[task];
     enum state first = NOT_STARTED, second = NOT_STARTED;
-    if (inputs_there(run, finished, task, primary))
+    if (after_ready(&run->job, task, primary) && inputs_there(run, finished, task, primary))
         first = run_copy(primary, &run->loss);
     if (first != FINISHED && after_detection(&run->job, primary, backup)
         && inputs_there(run, finished, task, backup))

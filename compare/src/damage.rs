@@ -1,6 +1,6 @@
 //! Damaged files.
 
-use crate::files::{read_job, write_job};
+use crate::files::{read_job, write_job, Job, MAX_TIME, NEWEST, READY};
 use crate::random::Random;
 
 /// Numbers at and around the limits of document 01.
@@ -89,7 +89,7 @@ fn set_count(random: &mut Random, file: &mut [u8]) {
     let mut places = vec![0, 4];
     if let Ok(job) = read_job(file) {
         let tasks = 8 + 4 * job.detect.len();
-        let links = tasks + 4 + 4 * job.tasks.len() * (1 + job.detect.len());
+        let links = file.len() - 4 - 12 * job.links.len();
         places.extend([tasks, tasks, links, links]);
     }
     let at = random.pick(&places);
@@ -118,8 +118,11 @@ fn swap_numbers(random: &mut Random, file: &mut [u8]) {
 }
 
 /// A job whose links are sound one by one but not in order; none if it has fewer than two.
-pub fn disordered(random: &mut Random, bytes: &[u8]) -> Option<Vec<u8>> {
-    let mut job = read_job(bytes).ok().filter(|job| job.links.len() > 1)?;
+pub fn disordered(random: &mut Random, job: &Job) -> Option<Vec<u8>> {
+    if job.links.len() < 2 {
+        return None;
+    }
+    let mut job = job.clone();
     let at = random.below(job.links.len() - 1);
     if random.percent(50) {
         job.links.swap(at, at + 1);
@@ -127,4 +130,25 @@ pub fn disordered(random: &mut Random, bytes: &[u8]) -> Option<Vec<u8>> {
         job.links[at + 1] = job.links[at];
     }
     Some(write_job(&job))
+}
+
+/// A job with a ready time at its limit or one beyond; none if it has no ready times.
+pub fn ready_at_limit(random: &mut Random, job: &Job) -> Option<Vec<u8>> {
+    if !READY.is_in(job.version) {
+        return None;
+    }
+    let mut job = job.clone();
+    let task = random.below(job.tasks.len());
+    job.tasks[task].ready = random.pick(&[MAX_TIME, MAX_TIME + 1]);
+    Some(write_job(&job))
+}
+
+/// A job under the number of another version, as often as not of one that is read.
+pub fn renumbered(random: &mut Random, job: &Job) -> Vec<u8> {
+    let other = (job.version % NEWEST + 1) as u32;
+    let unread = random.pick(&[0, 3, 4, 255, 256, u32::MAX]);
+    let version = if random.percent(50) { other } else { unread };
+    let mut file = write_job(job);
+    file[..4].copy_from_slice(&version.to_le_bytes());
+    file
 }

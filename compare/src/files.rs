@@ -8,8 +8,31 @@ pub const LINKS: (u64, u64) = (0, 512);
 pub const MAX_DETECT: u64 = 1_000;
 pub const MAX_TIME: u64 = 1_000_000;
 
+/// The newest version of a job. A plan has version 1 only.
+pub const NEWEST: u64 = 2;
+
+/// A number of an entry: the first version of a job that has it, and its limits.
+pub struct Field {
+    since: u64,
+    low: u64,
+    high: u64,
+}
+
+impl Field {
+    pub fn is_in(&self, version: u64) -> bool {
+        self.since <= version
+    }
+}
+
+pub const READY: Field = Field { since: 2, low: 0, high: MAX_TIME };
+const DEADLINE: Field = Field { since: 1, low: 1, high: MAX_TIME };
+
+/// What a task's entry holds before its run times.
+const TASK: [Field; 2] = [READY, DEADLINE];
+
 #[derive(Clone, Debug, PartialEq, Eq)]
 pub struct Job {
+    pub version: u64,
     /// The detect time of each node.
     pub detect: Vec<u64>,
     pub tasks: Vec<Task>,
@@ -18,6 +41,8 @@ pub struct Job {
 
 #[derive(Clone, Debug, PartialEq, Eq)]
 pub struct Task {
+    /// The primary starts no sooner.
+    pub ready: u64,
     pub deadline: u64,
     /// The run time on each node; 0 where the node cannot run the task.
     pub run: Vec<u64>,
@@ -84,8 +109,8 @@ impl Cursor<'_> {
         Ok(number)
     }
 
-    fn version(&mut self) -> Result<u64, Refusal> {
-        self.within(1, 1, VERSION)
+    fn version(&mut self, newest: u64) -> Result<u64, Refusal> {
+        self.within(1, newest, VERSION)
     }
 
     fn count(&mut self, limits: (u64, u64)) -> Result<usize, Refusal> {
@@ -94,6 +119,21 @@ impl Cursor<'_> {
 
     fn value(&mut self, low: u64, high: u64) -> Result<u64, Refusal> {
         self.within(low, high, VALUE)
+    }
+
+    /// The fields of an entry; one that the version lacks counts as 0.
+    fn fields<const N: usize>(
+        &mut self,
+        version: u64,
+        fields: &[Field; N],
+    ) -> Result<[u64; N], Refusal> {
+        let mut values = [0; N];
+        for (value, field) in values.iter_mut().zip(fields) {
+            if field.is_in(version) {
+                *value = self.value(field.low, field.high)?;
+            }
+        }
+        Ok(values)
     }
 
     fn end(&self) -> Result<(), Refusal> {
@@ -106,20 +146,21 @@ impl Cursor<'_> {
 
 pub fn read_job(bytes: &[u8]) -> Result<Job, Refusal> {
     let mut file = Cursor { bytes, offset: 0 };
-    file.version()?;
+    let version = file.version(NEWEST)?;
     let nodes = file.count(NODES)?;
     let detect = (0..nodes).map(|_| file.value(0, MAX_DETECT)).collect::<Result<_, _>>()?;
     let task_count = file.count(TASKS)?;
-    let tasks = (0..task_count).map(|_| read_task(&mut file, nodes)).collect::<Result<_, _>>()?;
+    let mut task = || read_task(&mut file, version, nodes);
+    let tasks = (0..task_count).map(|_| task()).collect::<Result<_, _>>()?;
     let links = read_links(&mut file, task_count)?;
     file.end()?;
-    Ok(Job { detect, tasks, links })
+    Ok(Job { version, detect, tasks, links })
 }
 
-fn read_task(file: &mut Cursor, nodes: usize) -> Result<Task, Refusal> {
-    let deadline = file.value(1, MAX_TIME)?;
+fn read_task(file: &mut Cursor, version: u64, nodes: usize) -> Result<Task, Refusal> {
+    let [ready, deadline] = file.fields(version, &TASK)?;
     let run = (0..nodes).map(|_| file.value(0, MAX_TIME)).collect::<Result<_, _>>()?;
-    Ok(Task { deadline, run })
+    Ok(Task { ready, deadline, run })
 }
 
 fn read_links(file: &mut Cursor, tasks: usize) -> Result<Vec<Link>, Refusal> {
@@ -147,7 +188,7 @@ fn read_link(file: &mut Cursor, last_task: u64) -> Result<Link, Refusal> {
 
 pub fn read_plan(job: &Job, bytes: &[u8]) -> Result<Plan, Refusal> {
     let mut file = Cursor { bytes, offset: 0 };
-    file.version()?;
+    file.version(1)?;
     let tasks = job.tasks.len() as u64;
     file.count((tasks, tasks))?;
     let mut rows = Vec::new();
@@ -171,17 +212,27 @@ fn read_place(file: &mut Cursor, task: &Task) -> Result<Place, Refusal> {
     Ok(Place { node, start })
 }
 
+/// The values that stand in a file of that version.
+fn present<const N: usize>(
+    version: u64,
+    fields: &[Field; N],
+    values: [u64; N],
+) -> impl Iterator<Item = u64> + '_ {
+    let listed = fields.iter().zip(values);
+    listed.filter(move |(field, _)| field.is_in(version)).map(|(_, value)| value)
+}
+
 fn bytes_of(numbers: &[u64]) -> Vec<u8> {
     numbers.iter().flat_map(|&number| (number as u32).to_le_bytes()).collect()
 }
 
 /// The bytes of a job, good or not: whoever makes test files wants faulty ones too.
 pub fn write_job(job: &Job) -> Vec<u8> {
-    let mut numbers = vec![1, job.detect.len() as u64];
+    let mut numbers = vec![job.version, job.detect.len() as u64];
     numbers.extend(&job.detect);
     numbers.push(job.tasks.len() as u64);
     for task in &job.tasks {
-        numbers.push(task.deadline);
+        numbers.extend(present(job.version, &TASK, [task.ready, task.deadline]));
         numbers.extend(&task.run);
     }
     numbers.push(job.links.len() as u64);
@@ -200,4 +251,46 @@ pub fn write_plan(plan: &Plan) -> Vec<u8> {
         }
     }
     bytes_of(&numbers)
+}
+
+#[cfg(test)]
+mod tests {
+    use super::*;
+    use crate::jobs::random_job;
+    use crate::random::Random;
+    use crate::samples::with_ready;
+    use crate::sized::planned;
+
+    #[test]
+    fn a_job_is_written_back_in_its_own_version() {
+        let random = &mut Random::new(8);
+        for _ in 0..200 {
+            let job = random_job(random);
+            assert_eq!(read_job(&write_job(&job)), Ok(job));
+        }
+    }
+
+    #[test]
+    fn a_ready_time_is_no_part_of_a_version_1_job() {
+        let file = write_job(&Job { version: 1, ..with_ready(7, 8) });
+        assert_eq!(read_job(&file), Ok(Job { version: 1, ..with_ready(0, 0) }));
+    }
+
+    #[test]
+    fn a_ready_time_stands_before_its_deadline() {
+        let mut file = write_job(&with_ready(7, 8));
+        // Version, node count, three nodes and task count come first.
+        assert_eq!(file[24..32], [7, 0, 0, 0, 30, 0, 0, 0]);
+        file[24..28].copy_from_slice(&(MAX_TIME as u32).to_le_bytes());
+        assert_eq!(read_job(&file), Ok(with_ready(MAX_TIME, 8)));
+        file[24..28].copy_from_slice(&(MAX_TIME as u32 + 1).to_le_bytes());
+        assert_eq!(read_job(&file), Err(Refusal::at(VALUE, 24)));
+    }
+
+    #[test]
+    fn the_longest_jobs() {
+        for (version, bytes) in [(1, 10_576), (2, 10_832)] {
+            assert_eq!(planned(version, 16, 64, 512).job.len(), bytes);
+        }
+    }
 }

@@ -1,12 +1,14 @@
 //! Random jobs. Numbers are small, so that copies get in each other's way.
 
-use crate::files::{Job, Link, Task, LINKS, MAX_DETECT, MAX_TIME};
+use crate::files::{Job, Link, Task, LINKS, MAX_DETECT, MAX_TIME, NEWEST, READY};
 use crate::random::Random;
 
 /// What a job's numbers are drawn from.
 struct Style {
+    version: u64,
     nodes: u64,
     tasks: u64,
+    max_ready: u64,
     max_run: u64,
     max_detect: u64,
     min_delay: u64,
@@ -24,6 +26,7 @@ pub fn random_job(random: &mut Random) -> Job {
     let style = if random.percent(30) { slow_style(random) } else { random_style(random) };
     let tasks = deadlines(random, &style).into_iter();
     let mut job = Job {
+        version: style.version,
         detect: (0..style.nodes).map(|_| random_detect(random, &style)).collect(),
         tasks: tasks.map(|deadline| random_task(random, &style, deadline)).collect(),
         links: random_links(random, &style),
@@ -37,9 +40,12 @@ pub fn random_job(random: &mut Random) -> Job {
 fn random_style(random: &mut Random) -> Style {
     let (nodes, tasks) = random_size(random);
     let full = tasks == 64 && nodes == 16;
+    let version = random.between(1, NEWEST);
     Style {
+        version,
         nodes,
         tasks,
+        max_ready: if READY.is_in(version) { random.pick(&[2, 8, 8, 20, 60]) } else { 0 },
         max_run: random.pick(&[1, 2, 4, 4, 8]),
         max_detect: random.pick(&[0, 1, 1, 3]),
         min_delay: 0,
@@ -88,14 +94,23 @@ fn random_delay(random: &mut Random, style: &Style) -> u64 {
     (random.between(style.min_delay, style.max_delay) * style.unit).min(MAX_TIME)
 }
 
+/// Nothing to wait for in half of the cases.
+fn random_ready(random: &mut Random, style: &Style) -> u64 {
+    let ready = if random.percent(50) { random.between(0, style.max_ready) } else { 0 };
+    (ready * style.unit).min(MAX_TIME)
+}
+
+/// The deadline is counted from the ready time on.
 fn random_task(random: &mut Random, style: &Style, deadline: u64) -> Task {
+    let ready = random_ready(random, style);
     let mut run = || {
         let lame = if random.percent(style.lame) { 5 * style.max_run } else { 0 };
         let able = !random.percent(style.unable);
         let run = if able { lame + random.between(1, style.max_run) } else { 0 };
         (run * style.unit).min(MAX_TIME)
     };
-    Task { deadline, run: (0..style.nodes).map(|_| run()).collect() }
+    let run = (0..style.nodes).map(|_| run()).collect();
+    Task { ready, deadline: (ready + deadline).min(MAX_TIME), run }
 }
 
 /// Loose for most jobs; for the others near the times at which backups may finish.
@@ -128,7 +143,7 @@ fn random_links(random: &mut Random, style: &Style) -> Vec<Link> {
     links
 }
 
-/// Sets some numbers to the greatest that the reader takes.
+/// Sets some numbers to the greatest that the reader takes, or near it.
 fn push_to_limits(random: &mut Random, job: &mut Job) {
     for detect in &mut job.detect {
         if random.percent(30) {
@@ -138,6 +153,9 @@ fn push_to_limits(random: &mut Random, job: &mut Job) {
     for task in &mut job.tasks {
         let node = random.below(task.run.len());
         task.run[node] = random.pick(&[task.run[node], MAX_TIME, MAX_TIME - 1]);
+        if READY.is_in(job.version) && random.percent(20) {
+            task.ready = random.pick(&[MAX_TIME, MAX_TIME - 1, MAX_TIME - 40]);
+        }
     }
     for link in &mut job.links {
         if random.percent(20) {

@@ -1,5 +1,5 @@
-//! A second implementation of document 01 and of request (i) of document 02, and what compares the
-//! proved library with it.
+//! A second implementation of document 01 and of requests (i) and (ii) of document 02, and what
+//! compares the proved library with it.
 
 pub mod console;
 pub mod damage;

@@ -5,8 +5,8 @@ use std::collections::BTreeSet;
 use crate::files::{Job, Link, Place, Plan, Row};
 use crate::refusal::{Refusal, NO_BACKUP, NO_PRIMARY};
 use crate::rules::{
-    after_detection, arrival, backup_fed, copy, fault_set, overlap, primary_fed, Copy, FaultSet,
-    Layout,
+    after_detection, after_ready, arrival, backup_fed, copy, fault_set, overlap, primary_fed, Copy,
+    FaultSet, Layout,
 };
 
 /// A plan in the making. The next task is the first that has no backup yet.
@@ -58,10 +58,11 @@ impl<'a> Draft<'a> {
         Plan { rows: pairs.map(|(p, b)| Row { primary: place(p), backup: place(b) }).collect() }
     }
 
-    /// Rules D and G and the deadline.
+    /// The ready time, rules D and G and the deadline.
     pub fn primary_fits(&self, primary: &Copy) -> bool {
         let task = self.task();
-        primary.finish <= self.job.tasks[task].deadline
+        after_ready(self.job, task, primary)
+            && primary.finish <= self.job.tasks[task].deadline
             && self.job.links_into(task).all(|link| primary_fed(&self.layout, link, primary))
             && !self.layout.primaries.iter().any(|other| overlap(other, primary))
             && !self.layout.backups.iter().any(|other| overlap(other, primary))
@@ -86,15 +87,16 @@ impl<'a> Draft<'a> {
 
     // Trying every tick would be too slow, so only some starts are tried. Let s be the earliest
     // start that keeps the rules on a node. If s is not 0, starting at s - 1 breaks a rule that
-    // s keeps. B, D and E each say that the start is not below some moment, so if one of them is
-    // broken, s is that moment. If G is broken, some copy on the node holds the tick s - 1 but
-    // not s, so it finishes at s. A and F do not ask for the start, and an earlier finish keeps
-    // the deadline. So 0, those moments and those finishes are all the starts to try; a moment
-    // that no rule asks for, as that of a backup not waited for, is tried in vain.
+    // s keeps. The ready time, B, D and E each say that the start is not below some moment, so if
+    // one of them is broken, s is that moment. If G is broken, some copy on the node holds the
+    // tick s - 1 but not s, so it finishes at s. A and F do not ask for the start, and an earlier
+    // finish keeps the deadline. So 0, those moments and those finishes are all the starts to try;
+    // a moment that no rule asks for, as that of a backup not waited for, is tried in vain.
 
     /// The starts to try for the primary on a node, rising.
     pub fn primary_starts(&self, node: usize) -> BTreeSet<u64> {
         let mut starts = self.finishes(node);
+        starts.insert(self.job.tasks[self.task()].ready);
         for link in self.job.links_into(self.task()) {
             starts.insert(arrival(link, &self.layout.primaries[link.from], node));
         }
@@ -152,7 +154,7 @@ impl<'a> Draft<'a> {
 #[cfg(test)]
 mod tests {
     use super::*;
-    use crate::earlier::keeps_rule_e_of_01;
+    use crate::earlier::{hasty_plan, keeps_rule_e_of_01, without_ready_times};
     use crate::jobs::random_job;
     use crate::random::Random;
     use crate::rules::in_time;
@@ -217,5 +219,21 @@ mod tests {
             assert_eq!(stays, plan_by_rule_e_of_01(&job) == Ok(answer));
         }
         assert!(moved > 30, "only {moved} plans were moved");
+    }
+
+    #[test]
+    fn just_the_plans_that_break_a_ready_time_are_moved() {
+        let random = &mut Random::new(7);
+        let mut moved = 0;
+        for _ in 0..1500 {
+            let job = random_job(random);
+            let Ok(earlier) = plan(&without_ready_times(&job)) else {
+                continue;
+            };
+            let stays = hasty_plan(&job).is_none();
+            moved += u64::from(!stays);
+            assert_eq!(stays, plan(&job) == Ok(earlier));
+        }
+        assert!(moved > 300, "only {moved} plans were moved");
     }
 }

@@ -1,6 +1,6 @@
 //! Random plans: kept to the rules, changed a little, and wild.
 
-use crate::files::{Job, Place, Plan, Row, MAX_TIME};
+use crate::files::{Job, Place, Plan, Row, Task, MAX_TIME};
 use crate::planner::Draft;
 use crate::random::Random;
 use crate::rules::{arrival, Copy};
@@ -100,7 +100,7 @@ fn change(random: &mut Random, job: &Job, plan: &mut Plan) {
     let start = plan_time(random, plan);
     let met = plan.rows[other];
     let row = &mut plan.rows[task];
-    match random.between(0, 15) {
+    match random.between(0, 16) {
         0..=3 => nudge(random, row, 1),
         4 | 5 => nudge(random, row, 6),
         6 => some_place(random, row).node = random.below(nodes),
@@ -110,6 +110,7 @@ fn change(random: &mut Random, job: &Job, plan: &mut Plan) {
         10 => row.backup = met.backup,
         11 => shift_from(random, plan, task),
         12 | 13 => row.backup.node = met.primary.node,
+        14 => start_too_soon(random, &job.tasks[task], &mut row.primary),
         _ => meet_later(random, row, &met),
     }
 }
@@ -127,6 +128,13 @@ fn nudge(random: &mut Random, row: &mut Row, most: u64) {
     let place = some_place(random, row);
     let start = if earlier { place.start.saturating_sub(by) } else { place.start + by };
     place.start = start.min(MAX_TIME);
+}
+
+/// Puts the primary before the task's ready time, if there is a tick before it.
+fn start_too_soon(random: &mut Random, task: &Task, primary: &mut Place) {
+    if task.ready > 0 {
+        primary.start = task.ready - random.between(1, task.ready.min(3));
+    }
 }
 
 /// Puts the backup on a node of another task, at a time that keeps more rules than not.

@@ -18,9 +18,10 @@ pub const NO_PRIMARY: u8 = 15;
 pub const NO_BACKUP: u8 = 16;
 pub const SHORT_BUFFER: u8 = 17;
 pub const NO_SUCH_NODE: u8 = 18;
+pub const TOO_SOON: u8 = 19;
 
 /// The word of each number; 0 is success.
-pub const WORDS: [&str; 19] = [
+pub const WORDS: [&str; 20] = [
     "(success)",
     "short",
     "version",
@@ -40,6 +41,7 @@ pub const WORDS: [&str; 19] = [
     "no backup",
     "short buffer",
     "no such node",
+    "too soon",
 ];
 
 #[derive(Clone, Copy, Debug, PartialEq, Eq)]

@@ -1,7 +1,7 @@
 //! Replay: what becomes of every copy, with no loss or with one node lost.
 
 use crate::files::{Job, Plan};
-use crate::rules::{after_detection, in_time, layout, Copy};
+use crate::rules::{after_detection, after_ready, in_time, layout, Copy};
 
 #[derive(Clone, Copy, Debug, PartialEq, Eq)]
 pub enum State {
@@ -32,12 +32,14 @@ pub fn replay(job: &Job, plan: &Plan, loss: Option<Loss>) -> Vec<Outcome> {
     let mut outcomes = Vec::new();
     for task in 0..job.tasks.len() {
         let (primary, backup) = (placed.primaries[task], placed.backups[task]);
-        let primary_state = state(&primary, inputs_there(job, &finished, task, &primary), loss);
+        let starts =
+            after_ready(job, task, &primary) && inputs_there(job, &finished, task, &primary);
+        let primary_state = state(&primary, starts, loss);
         let mut backup_state = State::NotStarted;
         if primary_state != State::Finished {
-            let ready = after_detection(job, &primary, &backup)
+            let starts = after_detection(job, &primary, &backup)
                 && inputs_there(job, &finished, task, &backup);
-            backup_state = state(&backup, ready, loss);
+            backup_state = state(&backup, starts, loss);
         }
         let done = match (primary_state, backup_state) {
             (State::Finished, _) => Some(primary),
@@ -56,9 +58,9 @@ fn inputs_there(job: &Job, finished: &[Option<Copy>], task: usize, receiver: &Co
     job.links_into(task).all(|link| there(finished[link.from], link))
 }
 
-/// What becomes of a copy that is ready to start or not.
-fn state(copy: &Copy, ready: bool, loss: Option<Loss>) -> State {
-    if !ready {
+/// What becomes of a copy that starts unless its node is lost by then.
+fn state(copy: &Copy, starts: bool, loss: Option<Loss>) -> State {
+    if !starts {
         return State::NotStarted;
     }
     match loss.filter(|loss| loss.node as usize == copy.node) {

@@ -3,17 +3,17 @@
 use std::collections::BTreeSet;
 
 use crate::console::{plan_bytes, replay_bytes};
-use crate::damage::{damaged, disordered};
-use crate::earlier::keeps_rule_e_of_01;
-use crate::files::{read_job, read_plan, write_job, write_plan, Job, Plan, NODES, TASKS};
+use crate::damage::{damaged, disordered, ready_at_limit, renumbered};
+use crate::earlier::{hasty_plan, keeps_rule_e_of_01, without_ready_times};
+use crate::files::{read_job, read_plan, write_job, write_plan, Job, Plan, NEWEST, NODES, TASKS};
 use crate::jobs::random_job;
 use crate::plans::{changed_plan, passing_plan, wild_plan};
 use crate::random::Random;
-use crate::refusal::SAME_NODE;
-use crate::replay::Loss;
+use crate::refusal::{Refusal, SAME_NODE, VERSION};
+use crate::replay::{replay, Loss, State};
 use crate::rules::{layout, longest_weak_path};
 use crate::survival::Survival;
-use crate::trial::{Call, Function, Mismatch, Trial};
+use crate::trial::{Call, Function, Mismatch, Tally, Trial};
 
 /// Up to so many runs of a passed plan, every node is lost at every tick.
 const MOST_RUNS: u64 = 8_000;
@@ -25,6 +25,10 @@ struct Given {
 }
 
 impl Given {
+    fn new(job: Job) -> Given {
+        Given { bytes: write_job(&job), job }
+    }
+
     fn judge<'a>(&'a self, plan: &'a [u8]) -> Call<'a> {
         Call { function: Function::Judge, job: &self.bytes, plan, room: 0 }
     }
@@ -51,14 +55,18 @@ impl Given {
 }
 
 pub fn round(trial: &mut Trial, random: &mut Random) -> Result<(), Mismatch> {
-    let job = random_job(random);
-    let given = Given { bytes: write_job(&job), job };
+    let given = Given::new(random_job(random));
     let planned = try_planner(trial, random, &given)?;
+    if let Some(hasty) = hasty_plan(&given.job) {
+        trial.tally.planned_later += u64::from(planned.is_some());
+        try_plan(trial, random, &given, &write_plan(&hasty))?;
+    }
     let good = good_plans(random, &given.job, planned);
     for plan in &good {
         try_plan(trial, random, &given, &write_plan(plan))?;
         try_changes(trial, random, &given, plan)?;
         try_deadlines(trial, random, &given, plan)?;
+        try_ready_times(trial, random, &given, plan)?;
     }
     let wild = write_plan(&wild_plan(random, &given.job));
     try_plan(trial, random, &given, &wild)?;
@@ -85,7 +93,7 @@ pub fn pair(trial: &mut Trial, job: &[u8], plan: &[u8]) -> Result<(), Mismatch> 
         trial.compare(&Call { function: lose(node), job, plan, room: most })?;
     }
     match read_job(job) {
-        Ok(job) => pair_losses(trial, &Given { bytes: write_job(&job), job }, plan),
+        Ok(job) => pair_losses(trial, &Given::new(job), plan),
         Err(_) => Ok(()),
     }
 }
@@ -191,11 +199,35 @@ fn try_deadlines(
         for deadline in [finish, finish - 1] {
             let mut job = given.job.clone();
             job.tasks[task].deadline = deadline;
-            let tight = Given { bytes: write_job(&job), job };
-            trial.compare(&tight.judge(&write_plan(plan)))?;
-            trial.compare(&tight.plan(tight.plan_room()))?;
+            try_changed_job(trial, job, plan)?;
         }
     }
+    Ok(())
+}
+
+/// A ready time set to the primary's start, and to one tick more.
+fn try_ready_times(
+    trial: &mut Trial,
+    random: &mut Random,
+    given: &Given,
+    plan: &Plan,
+) -> Result<(), Mismatch> {
+    let task = random.below(plan.rows.len());
+    let start = plan.rows[task].primary.start;
+    for ready in [start, start + 1] {
+        let mut job = Job { version: NEWEST, ..given.job.clone() };
+        job.tasks[task].ready = ready;
+        try_changed_job(trial, job, plan)?;
+    }
+    Ok(())
+}
+
+/// A job that was changed under its plan.
+fn try_changed_job(trial: &mut Trial, job: Job, plan: &Plan) -> Result<(), Mismatch> {
+    let (given, plan) = (Given::new(job), write_plan(plan));
+    trial.compare(&given.judge(&plan))?;
+    trial.compare(&given.plan(given.plan_room()))?;
+    trial.compare(&given.replay(&plan, None, given.replay_room()))?;
     Ok(())
 }
 
@@ -212,17 +244,36 @@ fn try_plan(
         return Ok(());
     };
     assert!(code == 0 || code & 0xff >= u64::from(SAME_NODE));
+    count_replay(&mut trial.tally, &given.job, &plan);
     let survival = Survival::new(&given.job, &plan);
     try_losses(trial, random, given, bytes, &survival, code == 0)?;
     if code == 0 {
-        trial.tally.passed += 1;
-        let weak_path = longest_weak_path(&given.job, &layout(&given.job, &plan));
-        trial.tally.passed_deep += u64::from(weak_path >= 2);
-        trial.tally.passed_large += u64::from(plan.rows.len() >= 32);
-        trial.tally.passed_newly += u64::from(!keeps_rule_e_of_01(&given.job, &plan));
+        count_passed(&mut trial.tally, &given.job, &plan);
         try_survival(trial, random, given, bytes, &survival)?;
     }
     Ok(())
+}
+
+fn count_passed(tally: &mut Tally, job: &Job, plan: &Plan) {
+    let weak_path = longest_weak_path(job, &layout(job, plan));
+    tally.passed += 1;
+    tally.passed_deep += u64::from(weak_path >= 2);
+    tally.passed_large += u64::from(plan.rows.len() >= 32);
+    tally.passed_newly += u64::from(!keeps_rule_e_of_01(job, plan));
+    tally.passed_version_1 += u64::from(job.version == 1);
+    tally.passed_with_ready += u64::from(job.tasks.iter().any(|task| task.ready > 0));
+}
+
+/// What the ready times do in the run without loss.
+fn count_replay(tally: &mut Tally, job: &Job, plan: &Plan) {
+    let outcomes = replay(job, plan, None);
+    let unheld = replay(&without_ready_times(job), plan, None);
+    let ran_sooner = |task: usize| {
+        let start = plan.rows[task].backup.start;
+        outcomes[task].backup == State::Finished && start < job.tasks[task].ready
+    };
+    tally.held_back += u64::from(outcomes != unheld);
+    tally.backup_sooner += u64::from((0..outcomes.len()).any(ran_sooner));
 }
 
 /// Short and long buffers, with the loss of a node that is there and one that is not.
@@ -333,7 +384,12 @@ fn try_damage(
         try_files(trial, random, &bad_job, plan)?;
         try_files(trial, random, &given.bytes, &bad_plan)?;
     }
-    if let Some(job) = disordered(random, &given.bytes) {
+    let faulty = [
+        disordered(random, &given.job),
+        ready_at_limit(random, &given.job),
+        Some(renumbered(random, &given.job)),
+    ];
+    for job in faulty.into_iter().flatten() {
         try_files(trial, random, &job, plan)?;
     }
     let (job, plan) = (damaged(random, &given.bytes), damaged(random, plan));
@@ -368,8 +424,11 @@ fn try_files(
     let loss = Some(Loss { node, moment: random.between(0, 30) as u32 });
     let functions =
         [Function::Judge, Function::Plan, Function::Replay(None), Function::Replay(loss)];
+    let later = job.first_chunk().is_some_and(|&v| u64::from(u32::from_le_bytes(v)) > NEWEST);
     for function in functions {
-        trial.compare(&Call { function, job, plan, room })?;
+        let code = trial.compare(&Call { function, job, plan, room })?;
+        let refused = code == Refusal::at(VERSION, 0).code();
+        trial.tally.later_version += u64::from(later && refused);
     }
     Ok(())
 }

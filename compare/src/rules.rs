@@ -1,10 +1,10 @@
-//! Rules A to G of a plan, and the judge.
+//! Rules A to G of a plan, the ready times, and the judge.
 
 use std::collections::BTreeSet;
 
 use crate::files::{Job, Link, Place, Plan};
 use crate::refusal::{
-    Refusal, BACKUP_UNFED, COMMON_LOSS, EARLY, LATE, OVERLAP, PRIMARY_UNFED, SAME_NODE,
+    Refusal, BACKUP_UNFED, COMMON_LOSS, EARLY, LATE, OVERLAP, PRIMARY_UNFED, SAME_NODE, TOO_SOON,
 };
 
 /// A copy in its place: it holds `node` from `start` up to, but not including, `finish`.
@@ -49,6 +49,11 @@ pub fn in_time(link: &Link, sender: &Copy, receiver: &Copy) -> bool {
 /// The copies hold one node, and some tick is held by both.
 pub fn overlap(a: &Copy, b: &Copy) -> bool {
     a.node == b.node && a.start < b.finish && b.start < a.finish
+}
+
+/// Request (ii): a primary starts no sooner than its task is ready. A backup is not asked.
+pub fn after_ready(job: &Job, task: usize, primary: &Copy) -> bool {
+    job.tasks[task].ready <= primary.start
 }
 
 /// Rule B: the loss of the primary's node is known before the backup starts.
@@ -114,6 +119,7 @@ pub fn judge(job: &Job, plan: &Plan) -> Result<(), Refusal> {
         broken.map_or(Ok(()), |link| Err(Refusal::of_tasks(number, link.from, link.to)))
     };
     every_task(SAME_NODE, &|task| primaries[task].node != backups[task].node)?;
+    every_task(TOO_SOON, &|task| after_ready(job, task, &primaries[task]))?;
     every_task(EARLY, &|task| after_detection(job, &primaries[task], &backups[task]))?;
     every_task(LATE, &|task| backups[task].finish <= job.tasks[task].deadline)?;
     every_link(PRIMARY_UNFED, &|link| primary_fed(&placed, link, &primaries[link.to]))?;
@@ -155,8 +161,8 @@ mod tests {
     /// Five nodes with detect 0; each task takes one time on all of them.
     fn job_of(runs: &[u64], links: &[(usize, usize, u64)]) -> Job {
         let links = links.iter().map(|&(from, to, delay)| Link { from, to, delay });
-        let tasks = runs.iter().map(|&run| Task { deadline: 100, run: vec![run; 5] });
-        Job { detect: vec![0; 5], tasks: tasks.collect(), links: links.collect() }
+        let tasks = runs.iter().map(|&run| Task { ready: 0, deadline: 100, run: vec![run; 5] });
+        Job { version: 1, detect: vec![0; 5], tasks: tasks.collect(), links: links.collect() }
     }
 
     /// Demand 3, as far as every task has to be finished.

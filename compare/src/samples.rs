@@ -1,8 +1,12 @@
-//! The samples of document 01, starred or not; sample 8 as request (i) of document 02 changes it.
+//! The samples of document 01, starred or not, sample 8 as request (i) of document 02 changes it;
+//! and samples for request (ii).
 
 use crate::console::{plan_bytes, replay_bytes, Console};
-use crate::files::{write_job, write_plan, Job, Link, Place, Plan, Row, Task};
-use crate::refusal::{describe, Refusal, COMMON_LOSS, COUNT, NO_BACKUP, OVERLAP, SHORT};
+use crate::files::{write_job, write_plan, Job, Link, Place, Plan, Row, Task, MAX_TIME};
+use crate::refusal::{
+    describe, Refusal, COMMON_LOSS, COUNT, EARLY, NO_BACKUP, NO_PRIMARY, OVERLAP, SAME_NODE, SHORT,
+    TOO_SOON, VALUE, VERSION,
+};
 use crate::replay::Loss;
 
 /// A plan's row as the samples write it: primary node, start; backup node, start.
@@ -15,8 +19,9 @@ pub const SAMPLE_1: [Listed; 2] = [[0, 0, 1, 5], [0, 4, 1, 9]];
 
 /// The samples' job J, on a number of nodes.
 fn job_on(nodes: usize) -> Job {
-    let task = |run: u64| Task { deadline: 30, run: vec![run; nodes] };
+    let task = |run: u64| Task { ready: 0, deadline: 30, run: vec![run; nodes] };
     Job {
+        version: 1,
         detect: vec![1; nodes],
         tasks: vec![task(4), task(3)],
         links: vec![Link { from: 0, to: 1, delay: 2 }],
@@ -38,6 +43,14 @@ fn with_delay(delay: u64) -> Job {
 fn with_deadline(deadline: u64) -> Job {
     let mut job = job();
     job.tasks[1].deadline = deadline;
+    job
+}
+
+/// J in version 2, with a ready time for each task.
+pub fn with_ready(first: u64, second: u64) -> Job {
+    let mut job = Job { version: 2, ..job() };
+    job.tasks[0].ready = first;
+    job.tasks[1].ready = second;
     job
 }
 
@@ -98,10 +111,10 @@ impl Check<'_> {
         self.expect_bytes(sample, &out, expected.ok().map(bytes_of));
     }
 
-    fn replayed(&mut self, sample: &str, loss: Option<Loss>, expected: [Written; 2]) {
+    /// Sample 1 on a job, replayed.
+    fn replayed(&mut self, sample: &str, job: &Job, loss: Option<Loss>, expected: [Written; 2]) {
         let mut out = vec![FILL; replay_bytes(2) + SPARE];
-        let (job, plan) = (write_job(&job()), bytes_of(SAMPLE_1));
-        let got = (self.console.replay)(&job, &plan, loss, &mut out);
+        let got = (self.console.replay)(&write_job(job), &bytes_of(SAMPLE_1), loss, &mut out);
         self.expect(sample, got, Ok(()));
         let numbers = expected.iter().flatten().flat_map(|number| number.to_le_bytes());
         self.expect_bytes(sample, &out, Some(numbers.collect()));
@@ -114,7 +127,7 @@ impl Check<'_> {
             (self.console.judge)(file, &plan),
             (self.console.plan)(file, &mut out),
             (self.console.replay)(file, &plan, None, &mut out),
-            (self.console.replay)(file, &plan, Some(Loss { node: 0, moment: 3 }), &mut out),
+            (self.console.replay)(file, &plan, lost(3), &mut out),
         ];
         for got in results {
             self.expect(sample, got, Err(refusal));
@@ -130,6 +143,10 @@ pub fn run(console: &Console) -> (usize, Vec<String>) {
     replay_samples(&mut check);
     judge_samples(&mut check);
     reader_samples(&mut check);
+    ready_planned(&mut check);
+    ready_judged(&mut check);
+    ready_replayed(&mut check);
+    ready_unread(&mut check);
     (check.count, check.faults)
 }
 
@@ -141,12 +158,16 @@ fn planner_samples(check: &mut Check) {
     check.planned("10", &without_link(), Ok([[0, 0, 1, 5], [1, 0, 0, 4]]));
 }
 
+/// Node 0 is lost.
+fn lost(moment: u32) -> Option<Loss> {
+    Some(Loss { node: 0, moment })
+}
+
 fn replay_samples(check: &mut Check) {
-    let lost = |moment: u32| Some(Loss { node: 0, moment });
-    check.replayed("2", lost(3), [[1, 2, 9], [0, 2, 12]]);
-    check.replayed("3, lost at 4", lost(4), [[2, 0, 4], [0, 2, 12]]);
-    check.replayed("3, lost at 5", lost(5), [[2, 0, 4], [1, 2, 12]]);
-    check.replayed("3, no loss", None, [[2, 0, 4], [2, 0, 7]]);
+    check.replayed("2", &job(), lost(3), [[1, 2, 9], [0, 2, 12]]);
+    check.replayed("3, lost at 4", &job(), lost(4), [[2, 0, 4], [0, 2, 12]]);
+    check.replayed("3, lost at 5", &job(), lost(5), [[2, 0, 4], [1, 2, 12]]);
+    check.replayed("3, no loss", &job(), None, [[2, 0, 4], [2, 0, 7]]);
 }
 
 fn judge_samples(check: &mut Check) {
@@ -173,4 +194,55 @@ fn reader_samples(check: &mut Check) {
         check.planned(&format!("11, P = {nodes}"), &job_on(nodes), Ok(SAMPLE_1));
     }
     check.unread("11, empty file", &[], Refusal::at(SHORT, 0));
+}
+
+fn ready_planned(check: &mut Check) {
+    check.planned("(ii), all ready at 0", &with_ready(0, 0), Ok(SAMPLE_1));
+    check.planned("(ii), task 1 ready at 4", &with_ready(0, 4), Ok(SAMPLE_1));
+    check.planned("(ii), task 1 ready at 5", &with_ready(0, 5), Ok([[0, 0, 1, 5], [0, 5, 1, 9]]));
+    check.planned("(ii), task 1 ready at 6", &with_ready(0, 6), Ok([[0, 0, 1, 5], [0, 6, 1, 10]]));
+    check.planned("(ii), task 0 ready at 2", &with_ready(2, 0), Ok([[0, 2, 1, 7], [0, 6, 1, 11]]));
+    // Deadline 30: the primary may start at 27, the backup then no more; at 28 neither.
+    check.planned("(ii), at 27", &with_ready(0, 27), Err(Refusal::of_task(NO_BACKUP, 1)));
+    check.planned("(ii), at 28", &with_ready(0, 28), Err(Refusal::of_task(NO_PRIMARY, 1)));
+    let never = with_ready(MAX_TIME, 0);
+    check.planned("(ii), at 1,000,000", &never, Err(Refusal::of_task(NO_PRIMARY, 0)));
+}
+
+fn ready_judged(check: &mut Check) {
+    let too_soon = |task: usize| Err(Refusal::of_task(TOO_SOON, task));
+    check.judged("(ii), just ready", &with_ready(0, 4), SAMPLE_1, Ok(()));
+    check.judged("(ii), one tick early", &with_ready(0, 5), SAMPLE_1, too_soon(1));
+    check.judged("(ii), both early", &with_ready(1, 5), SAMPLE_1, too_soon(0));
+    check.judged("(ii), the backup early too", &with_ready(0, 20), SAMPLE_1, too_soon(1));
+    let same_node = Err(Refusal::of_task(SAME_NODE, 1));
+    check.judged("(ii), after 8", &with_ready(1, 0), [[0, 0, 1, 5], [0, 4, 0, 9]], same_node);
+    let early = [[0, 0, 1, 4], [0, 4, 1, 9]];
+    check.judged("(ii), before 9", &with_ready(0, 5), early, too_soon(1));
+    check.judged("(ii), then 9", &with_ready(0, 4), early, Err(Refusal::of_task(EARLY, 0)));
+    let backup_early = [[0, 0, 1, 5], [0, 5, 2, 4]];
+    let is_early = Err(Refusal::of_task(EARLY, 1));
+    check.judged("(ii), only the backup early", &with_ready(0, 5), backup_early, is_early);
+}
+
+fn ready_replayed(check: &mut Check) {
+    check.replayed("(ii), just ready", &with_ready(0, 4), None, [[2, 0, 4], [2, 0, 7]]);
+    check.replayed("(ii), held back", &with_ready(0, 5), None, [[2, 0, 4], [0, 2, 12]]);
+    // The backups start at 5 and 9, before their ready times.
+    check.replayed("(ii), backups early", &with_ready(6, 20), None, [[0, 2, 9], [0, 2, 12]]);
+    check.replayed("(ii), lost at 5", &with_ready(0, 20), lost(5), [[2, 0, 4], [0, 2, 12]]);
+}
+
+/// What the reader refuses: other versions, a ready time beyond its limit, a plan in version 2.
+fn ready_unread(check: &mut Check) {
+    for version in [0, 3] {
+        let file = write_job(&Job { version, ..with_ready(0, 0) });
+        check.unread(&format!("(ii), version {version}"), &file, Refusal::at(VERSION, 0));
+    }
+    let beyond = write_job(&with_ready(MAX_TIME + 1, 0));
+    check.unread("(ii), ready at 1,000,001", &beyond, Refusal::at(VALUE, 24));
+    let mut plan = bytes_of(SAMPLE_1);
+    plan[0] = 2;
+    let got = (check.console.judge)(&write_job(&with_ready(0, 0)), &plan);
+    check.expect("(ii), a plan in version 2", got, Err(Refusal::at(VERSION, 0)));
 }

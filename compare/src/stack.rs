@@ -1,8 +1,9 @@
-//! How much stack the library's functions use, on a job of the greatest size.
+//! How much stack the library's functions use, on jobs of the greatest size.
 
 use std::ffi::c_void;
 
 use crate::console::{plan_bytes, replay_bytes, Console};
+use crate::files::NEWEST;
 use crate::sized::planned;
 
 /// A call has to use less than this.
@@ -12,9 +13,20 @@ extern "C" {
     fn stack_used(call: extern "C" fn(*mut c_void), argument: *mut c_void) -> usize;
 }
 
-/// Each function with the bytes of stack that it uses.
-pub fn used(console: &Console) -> [(&'static str, usize); 4] {
-    let case = planned(16, 64, 512);
+type Used = [(&'static str, usize); 4];
+
+/// Each function with the bytes of stack that it uses, in the version that takes more.
+pub fn used(console: &Console) -> Used {
+    let mut most = used_in(console, 1);
+    for version in 2..=NEWEST {
+        let used = used_in(console, version);
+        most.iter_mut().zip(used).for_each(|(most, used)| most.1 = most.1.max(used.1));
+    }
+    most
+}
+
+fn used_in(console: &Console, version: u64) -> Used {
+    let case = planned(version, 16, 64, 512);
     let (job, plan) = (&case.job, &case.plan);
     let mut planned = vec![0; plan_bytes(case.tasks)];
     let mut replayed = vec![0; replay_bytes(case.tasks)];

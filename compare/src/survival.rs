@@ -20,6 +20,7 @@ pub struct Survival<'a> {
     spans: Vec<Span>,
 }
 
+const NOT_STARTED: u64 = 0;
 const CUT: u64 = 1;
 const FINISHED: u64 = 2;
 
@@ -67,7 +68,8 @@ impl<'a> Survival<'a> {
 
     /// What is wrong with the rows written for a loss, if anything is.
     pub fn fault(&self, loss: Option<Loss>, rows: &[u8]) -> Option<String> {
-        self.unfinished(rows).or_else(|| self.doubly_held(loss, rows)).or_else(|| self.unfed(rows))
+        let fault = self.unfinished(rows).or_else(|| self.doubly_held(loss, rows));
+        fault.or_else(|| self.unfed(rows)).or_else(|| self.too_soon(rows))
     }
 
     /// Exactly one copy of each task is finished, at its listed finish, from 1 to the deadline.
@@ -131,6 +133,14 @@ impl<'a> Survival<'a> {
         }
         None
     }
+
+    /// No primary started before its task was ready.
+    fn too_soon(&self, rows: &[u8]) -> Option<String> {
+        let started = |task: usize| written(rows, task).primary != NOT_STARTED;
+        let waits = |task: usize| self.plan.rows[task].primary.start < self.job.tasks[task].ready;
+        let task = (0..self.job.tasks.len()).find(|&task| started(task) && waits(task))?;
+        Some(format!("the primary of task {task} started before it was ready"))
+    }
 }
 
 #[cfg(test)]
@@ -138,7 +148,7 @@ mod tests {
     use super::*;
     use crate::console::{replay_bytes, SECOND};
     use crate::files::{write_job, write_plan};
-    use crate::samples::{job, plan_of, without_link, SAMPLE_1};
+    use crate::samples::{job, plan_of, with_ready, without_link, SAMPLE_1};
 
     fn fault_of(job: &Job, plan: &Plan, loss: Option<Loss>) -> Option<String> {
         let mut rows = vec![0; replay_bytes(job.tasks.len())];
@@ -182,12 +192,27 @@ mod tests {
         assert!(fault.is_some_and(|text| text.contains("held node")));
     }
 
+    fn fault_in(job: &Job, plan: &Plan, loss: Option<Loss>, rows: [u32; 6]) -> Option<String> {
+        let rows: Vec<u8> = rows.into_iter().flat_map(u32::to_le_bytes).collect();
+        Survival::new(job, plan).fault(loss, &rows)
+    }
+
     #[test]
     fn a_missing_input_is_found() {
         // The rows say that both backups ran, but the result of the first comes too late.
-        let (job, plan) = (job(), plan_of([[0, 0, 1, 5], [0, 4, 2, 9]]));
-        let rows: Vec<u8> = [1u32, 2, 9, 0, 2, 12].into_iter().flat_map(u32::to_le_bytes).collect();
-        let fault = Survival::new(&job, &plan).fault(lost(0, 3), &rows);
+        let plan = plan_of([[0, 0, 1, 5], [0, 4, 2, 9]]);
+        let fault = fault_in(&job(), &plan, lost(0, 3), [1, 2, 9, 0, 2, 12]);
         assert!(fault.is_some_and(|text| text.contains("lacks")));
+    }
+
+    #[test]
+    fn a_start_before_the_ready_time_is_found() {
+        let plan = plan_of(SAMPLE_1);
+        let fault = |ready, rows| fault_in(&with_ready(0, ready), &plan, lost(0, 5), rows);
+        let cut = [2, 0, 4, 1, 2, 12];
+        assert_eq!(fault(4, cut), None);
+        assert!(fault(5, cut).is_some_and(|text| text.contains("before it was ready")));
+        // Held back, the primary is not started, and the backup need not wait.
+        assert_eq!(fault(20, [2, 0, 4, 0, 2, 12]), None);
     }
 }

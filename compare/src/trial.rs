@@ -3,7 +3,7 @@
 use std::fmt;
 
 use crate::console::{Console, SECOND};
-use crate::refusal::{describe, number_of, WORDS};
+use crate::refusal::{describe, number_of, TOO_SOON, WORDS};
 use crate::replay::Loss;
 
 #[derive(Clone, Copy, Debug, PartialEq, Eq)]
@@ -53,25 +53,33 @@ impl Mismatch {
     }
 }
 
-pub const PASSED_NEWLY: &str = "passed plans that rule E of document 01 refused";
-pub const PLANNED_NEWLY: &str = "planned jobs whose plan rule E of document 01 would move";
-
 /// How often each outcome was met, so that a run that tries little is seen to do so.
 #[derive(Default)]
 pub struct Tally {
     /// By function and number of the result.
-    pub results: [[u64; 19]; 4],
+    pub results: [[u64; WORDS.len()]; 4],
+    // What else was met; `counts` says it in words.
     pub passed: u64,
-    /// Passed plans with a path of two weak links or more.
     pub passed_deep: u64,
-    /// Passed plans of 32 tasks or more.
     pub passed_large: u64,
-    /// What request (i) changed, by the names above.
+    pub every_tick: u64,
+    pub survived: u64,
     pub passed_newly: u64,
     pub planned_newly: u64,
-    /// Runs of passed plans held to demand 3, and the plans for which every tick was tried.
-    pub survived: u64,
-    pub every_tick: u64,
+    pub passed_version_1: u64,
+    pub passed_with_ready: u64,
+    pub planned_later: u64,
+    pub held_back: u64,
+    pub backup_sooner: u64,
+    pub later_version: u64,
+}
+
+/// Something counted: how often it was met, in words, and how often a run of the default count has
+/// to meet it.
+pub struct Count {
+    pub met: u64,
+    pub words: &'static str,
+    pub least: u64,
 }
 
 impl Tally {
@@ -88,6 +96,30 @@ impl Tally {
     pub fn met(&self, number: usize) -> u64 {
         self.results.iter().map(|row| row[number]).sum()
     }
+
+    /// What was met beside results, in the order in which it is printed.
+    pub fn counts(&self) -> impl Iterator<Item = Count> {
+        let too_soon = self.results[0][usize::from(TOO_SOON)];
+        let counts = [
+            (self.passed, 10_000, "passed plans"),
+            (self.passed_deep, 1_000, "passed plans with a path of two weak links or more"),
+            (self.passed_large, 0, "passed plans of 32 tasks or more"),
+            (self.every_tick, 0, "passed plans with every node lost at every tick"),
+            (self.survived, 0, "runs of passed plans held to demand 3"),
+            // Request (i).
+            (self.passed_newly, 200, "passed plans that rule E of document 01 refused"),
+            (self.planned_newly, 100, "planned jobs whose plan rule E of document 01 would move"),
+            // Request (ii).
+            (self.passed_version_1, 2_000, "passed plans of version 1 jobs"),
+            (self.passed_with_ready, 2_000, "passed plans of jobs with ready times above 0"),
+            (self.planned_later, 300, "planned jobs whose plan the ready times moved"),
+            (too_soon, 5_000, "plans refused as too soon"),
+            (self.held_back, 500, "replays without loss in which a primary was not ready"),
+            (self.backup_sooner, 250, "replays without loss with a backup run before ready"),
+            (self.later_version, 3_000, "calls with a job of a later version, refused 2 at 0"),
+        ];
+        counts.into_iter().map(|(met, least, words)| Count { met, words, least })
+    }
 }
 
 impl fmt::Display for Tally {
@@ -99,13 +131,7 @@ impl fmt::Display for Tally {
             write!(f, "\n{number:>2} {word:<14}")?;
             self.results.iter().try_for_each(|row| write!(f, "{:>12}", row[number]))?;
         }
-        writeln!(f, "\npassed plans: {}", self.passed)?;
-        writeln!(f, "  with a path of two weak links or more: {}", self.passed_deep)?;
-        writeln!(f, "  of 32 tasks or more: {}", self.passed_large)?;
-        writeln!(f, "  with every node lost at every tick: {}", self.every_tick)?;
-        writeln!(f, "{PASSED_NEWLY}: {}", self.passed_newly)?;
-        writeln!(f, "{PLANNED_NEWLY}: {}", self.planned_newly)?;
-        write!(f, "runs of passed plans held to demand 3: {}", self.survived)
+        self.counts().try_for_each(|count| write!(f, "\n{}: {}", count.words, count.met))
     }
 }
 

@@ -1,5 +1,5 @@
-/* Holds the header's limits and lengths to the library's, through the calls: each
- * limit and one past it, each length and a byte less and more. */
+/* Holds the header's limits and lengths to the library's, through the calls, in each
+ * job version: each limit and one past it, each length and a byte less and more. */
 #include "seqopchi.h"
 
 #include <stdio.h>
@@ -18,23 +18,28 @@ static const char *const call_names[CALLS] = {
 
 /* The numbers of a job and of a plan. */
 enum field {
-    VERSION, NODES, DETECT, TASKS, DEADLINE, RUN, LINKS, FROM, TO, DELAY,
+    VERSION, NODES, DETECT, TASKS, READY, DEADLINE, RUN, LINKS, FROM, TO, DELAY,
     PLAN_VERSION, ROWS, PRIMARY, PRIMARY_START, BACKUP, BACKUP_START, FIELDS
 };
 
 static const char *const field_names[FIELDS] = {
-    "version", "nodes", "detect time", "tasks", "deadline", "run time", "links",
-    "from", "to", "delay", "version of the plan", "rows", "primary's node",
+    "version", "nodes", "detect time", "tasks", "ready time", "deadline", "run time",
+    "links", "from", "to", "delay", "version of the plan", "rows", "primary's node",
     "primary's start", "backup's node", "backup's start"
 };
 
 /* Well inside all limits, with tasks enough for the most links. The rows of the plan
  * are alike and their backups early, so that a rule refuses a plan that reads well. */
 static const uint32_t usual[FIELDS] = {
-    [VERSION] = SEQOPCHI_FILE_VERSION, [NODES] = 3, [DETECT] = 1, [TASKS] = 40,
-    [DEADLINE] = 9999, [RUN] = 4, [LINKS] = 2, [DELAY] = 2,
-    [PLAN_VERSION] = SEQOPCHI_FILE_VERSION, [BACKUP] = 1
+    [NODES] = 3, [DETECT] = 1, [TASKS] = 40, [DEADLINE] = 9999, [RUN] = 4,
+    [LINKS] = 2, [DELAY] = 2, [PLAN_VERSION] = SEQOPCHI_PLAN_VERSION, [BACKUP] = 1
 };
+
+#define OLDEST_JOB_VERSION 1
+#define READY_VERSION 2 /* the first with ready times */
+
+/* The longest job of each version, from the papers. */
+static const size_t longest[SEQOPCHI_NEWEST_JOB_VERSION + 1] = { 0, 10576, 10832 };
 
 struct file {
     size_t length;
@@ -42,6 +47,7 @@ struct file {
     uint8_t data[ROOM];
 };
 
+static uint32_t version;         /* the usual one of a job */
 static uint32_t numbers[FIELDS]; /* what the files are made of */
 static struct file job, plan;
 static uint8_t out[ROOM];
@@ -51,7 +57,8 @@ static unsigned long calls;
 
 static void about(const char *name, const char *what, unsigned long number)
 {
-    snprintf(subject, sizeof subject, "%s, %s %lu", name, what, number);
+    snprintf(subject, sizeof subject, "%s, %s %lu, usual job version %lu", name, what,
+             number, (unsigned long)version);
 }
 
 static void check(int fine, const char *fault)
@@ -102,6 +109,8 @@ static void write_job(void)
         put(&job, DETECT, numbers[DETECT]);
     put(&job, TASKS, numbers[TASKS]);
     for (uint32_t task = 0; task < numbers[TASKS]; task++) {
+        if (numbers[VERSION] >= READY_VERSION)
+            put(&job, READY, numbers[READY]);
         put(&job, DEADLINE, numbers[DEADLINE]);
         for (uint32_t node = 0; node < numbers[NODES]; node++)
             put(&job, RUN, numbers[RUN]);
@@ -123,6 +132,7 @@ static void write_plan(void)
 static void write_files(enum field field, uint32_t number)
 {
     memcpy(numbers, usual, sizeof numbers);
+    numbers[VERSION] = version;
     numbers[field] = number;
     write_job();
     write_plan();
@@ -205,16 +215,17 @@ struct limit {
     { #macro, field, macro, macro + 1, SEQOPCHI_REFUSED_##refusal }
 
 static const struct limit limits[] = {
-    AT_LEAST(SEQOPCHI_FILE_VERSION, VERSION, VERSION),
-    AT_MOST(SEQOPCHI_FILE_VERSION, VERSION, VERSION),
-    AT_LEAST(SEQOPCHI_FILE_VERSION, PLAN_VERSION, VERSION),
-    AT_MOST(SEQOPCHI_FILE_VERSION, PLAN_VERSION, VERSION),
+    AT_LEAST(OLDEST_JOB_VERSION, VERSION, VERSION),
+    AT_MOST(SEQOPCHI_NEWEST_JOB_VERSION, VERSION, VERSION),
+    AT_LEAST(SEQOPCHI_PLAN_VERSION, PLAN_VERSION, VERSION),
+    AT_MOST(SEQOPCHI_PLAN_VERSION, PLAN_VERSION, VERSION),
     AT_LEAST(SEQOPCHI_MIN_NODES, NODES, COUNT),
     AT_MOST(SEQOPCHI_MAX_NODES, NODES, COUNT),
     AT_LEAST(SEQOPCHI_MIN_TASKS, TASKS, COUNT),
     AT_MOST(SEQOPCHI_MAX_TASKS, TASKS, COUNT),
     AT_MOST(SEQOPCHI_MAX_LINKS, LINKS, COUNT),
     AT_MOST(SEQOPCHI_MAX_DETECT, DETECT, VALUE),
+    AT_MOST(SEQOPCHI_MAX_TIME, READY, VALUE),
     AT_LEAST(SEQOPCHI_MIN_DEADLINE, DEADLINE, VALUE),
     AT_MOST(SEQOPCHI_MAX_TIME, DEADLINE, VALUE),
     AT_MOST(SEQOPCHI_MAX_TIME, RUN, VALUE),
@@ -228,6 +239,8 @@ static void check_limit(const struct limit *l)
 {
     struct file *f = l->field < PLAN_VERSION ? &job : &plan;
 
+    if (l->field == READY && version < READY_VERSION)
+        return;
     about(l->macro, field_names[l->field], l->limit);
     write_files(l->field, l->limit);
     check(numbers[l->field] == l->limit, "the usual job has too few tasks for that");
@@ -274,9 +287,12 @@ static void check_job_lengths(void)
         numbers[LINKS] = links[i % 3];
         write_job();
         check_file("SEQOPCHI_JOB_BYTES", &job,
-                   SEQOPCHI_JOB_BYTES(numbers[NODES], numbers[TASKS], numbers[LINKS]));
+                   SEQOPCHI_JOB_BYTES(version, numbers[NODES], numbers[TASKS],
+                                      numbers[LINKS]));
     }
-    check_file("SEQOPCHI_MAX_JOB_BYTES", &job, SEQOPCHI_MAX_JOB_BYTES);
+    check_file("the longest job", &job, longest[version]);
+    if (version == SEQOPCHI_NEWEST_JOB_VERSION)
+        check_file("SEQOPCHI_MAX_JOB_BYTES", &job, SEQOPCHI_MAX_JOB_BYTES);
 }
 
 /* A plan of so many tasks as a file, as the planner's output, and replayed. */
@@ -322,7 +338,8 @@ static const struct { unsigned number; const char *word; } words[] = {
     { SEQOPCHI_REFUSED_NO_PRIMARY, "no primary" },
     { SEQOPCHI_REFUSED_NO_BACKUP, "no backup" },
     { SEQOPCHI_REFUSED_SHORT_BUFFER, "short buffer" },
-    { SEQOPCHI_REFUSED_NO_SUCH_NODE, "no such node" }
+    { SEQOPCHI_REFUSED_NO_SUCH_NODE, "no such node" },
+    { SEQOPCHI_REFUSED_TOO_SOON, "too soon" }
 };
 
 static void check_words(void)
@@ -337,7 +354,7 @@ static void check_words(void)
 }
 
 /* Plans of two linked tasks: node and start of primary and backup, one rule broken. */
-static const struct { unsigned number, first, second; uint32_t rows[8]; } rules[] = {
+static const struct rule { unsigned number, first, second; uint32_t rows[8]; } rules[] = {
     { SEQOPCHI_DONE, 0, 0, { 0, 0, 1, 5, 0, 4, 1, 9 } },
     { SEQOPCHI_REFUSED_SAME_NODE, 0, 0, { 0, 0, 0, 5, 0, 4, 1, 9 } },
     { SEQOPCHI_REFUSED_EARLY, 0, 0, { 0, 0, 1, 4, 0, 4, 1, 9 } },
@@ -348,15 +365,38 @@ static const struct { unsigned number, first, second; uint32_t rows[8]; } rules[
     { SEQOPCHI_REFUSED_OVERLAP, 0, 1, { 0, 0, 1, 5, 1, 6, 2, 11 } }
 };
 
+static void write_rule(const struct rule *r)
+{
+    about("enum seqopchi_refusal", "rule", r->number);
+    write_files(TASKS, 2);
+    plan.length = SEQOPCHI_PLAN_BYTES(0);
+    for (int k = 0; k < 8; k++)
+        put(&plan, PRIMARY + k % 4, r->rows[k]);
+}
+
 static void check_rules(void)
 {
     for (size_t i = 0; i < COUNT_OF(rules); i++) {
-        about("enum seqopchi_refusal", "rule", rules[i].number);
-        write_files(TASKS, 2);
-        plan.length = SEQOPCHI_PLAN_BYTES(0);
-        for (int k = 0; k < 8; k++)
-            put(&plan, PRIMARY + k % 4, rules[i].rows[k]);
+        write_rule(&rules[i]);
         expect(JUDGE, 0, rules[i].number, rules[i].first, rules[i].second);
+    }
+}
+
+/* The same plans where task 1 becomes ready one tick behind its primary's start: that
+ * is refused behind 8 and before all others. At the start itself nothing changes. */
+static void check_too_soon(void)
+{
+    for (size_t i = 0; i < COUNT_OF(rules); i++) {
+        const struct rule *r = &rules[i];
+
+        write_rule(r);
+        set_number(&job, READY, r->rows[5]);
+        expect(JUDGE, 0, r->number, r->first, r->second);
+        set_number(&job, READY, r->rows[5] + 1);
+        if (r->number == SEQOPCHI_REFUSED_SAME_NODE)
+            expect(JUDGE, 0, r->number, r->first, r->second);
+        else
+            expect(JUDGE, 0, SEQOPCHI_REFUSED_TOO_SOON, 1, 1);
     }
 }
 
@@ -377,6 +417,14 @@ static void check_other_refusals(void)
     expect(LOSS, 0, SEQOPCHI_REFUSED_NO_SUCH_NODE, lost_node, 0);
 }
 
+/* Of the first task. */
+static void expect_outcomes(enum call call, uint8_t primary, uint8_t backup)
+{
+    expect(call, ROOM, SEQOPCHI_DONE, 0, 0);
+    check(out[0] == primary, "another outcome of the primary");
+    check(out[4] == backup, "another outcome of the backup");
+}
+
 /* One task, its primary on node 0 from 0 to 4, which is lost. */
 static void check_outcomes(uint32_t moment, uint8_t primary, uint8_t backup)
 {
@@ -385,22 +433,46 @@ static void check_outcomes(uint32_t moment, uint8_t primary, uint8_t backup)
     set_number(&plan, BACKUP_START, 5);
     lost_node = 0;
     lost_moment = moment;
-    expect(LOSS, ROOM, SEQOPCHI_DONE, 0, 0);
-    check(out[0] == primary, "another outcome of the primary");
-    check(out[4] == backup, "another outcome of the backup");
+    expect_outcomes(LOSS, primary, backup);
 }
 
-int main(void)
+/* One task, its primary from 2 to 6, its backup from 7 on, which no ready time holds
+ * back. The planner puts the primary at the ready time. */
+static void check_ready(uint32_t ready, uint8_t primary, uint8_t backup)
+{
+    about("the outcomes", "ready time", ready);
+    write_files(TASKS, 1);
+    set_number(&job, READY, ready);
+    set_number(&plan, PRIMARY_START, 2);
+    set_number(&plan, BACKUP_START, 7);
+    expect_outcomes(REPLAY, primary, backup);
+    expect(PLAN, ROOM, SEQOPCHI_DONE, 0, 0);
+    check(out[SEQOPCHI_PLAN_BYTES(0) + 4] == ready, "another start of the primary");
+}
+
+static void check_version(void)
 {
     for (size_t i = 0; i < COUNT_OF(limits); i++)
         check_limit(&limits[i]);
     check_lengths();
-    check_words();
     check_rules();
     check_other_refusals();
     check_outcomes(0, SEQOPCHI_NOT_STARTED, SEQOPCHI_FINISHED);
     check_outcomes(3, SEQOPCHI_CUT, SEQOPCHI_FINISHED);
     check_outcomes(4, SEQOPCHI_FINISHED, SEQOPCHI_NOT_STARTED);
+    if (version < READY_VERSION)
+        return;
+    check_too_soon();
+    check_ready(2, SEQOPCHI_FINISHED, SEQOPCHI_NOT_STARTED);
+    check_ready(3, SEQOPCHI_NOT_STARTED, SEQOPCHI_FINISHED);
+    check_ready(8, SEQOPCHI_NOT_STARTED, SEQOPCHI_FINISHED);
+}
+
+int main(void)
+{
+    check_words();
+    for (version = OLDEST_JOB_VERSION; version <= SEQOPCHI_NEWEST_JOB_VERSION; version++)
+        check_version();
     printf("limits: the header's limits and lengths are the library's (%lu calls)\n", calls);
     return 0;
 }

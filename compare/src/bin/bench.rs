@@ -104,18 +104,19 @@ fn print_row(case: &Case, function: &str, times: &Times) {
 
 fn cases() -> Vec<Case> {
     let mut cases = vec![
-        case("four tasks", 3, 4, 4),
-        case("middling", 8, 24, 72),
-        case("maximum", 16, 64, 512),
+        case("four tasks", 1, 3, 4, 4),
+        case("middling", 1, 8, 24, 72),
+        case("maximum", 1, 16, 64, 512),
     ];
     // How the cost grows with tasks, and then with links.
-    cases.extend([8, 16, 32, 64].map(|tasks| case("by tasks", 8, tasks, 3 * tasks)));
-    cases.extend([0, 128, 256, 512].map(|links| case("by links", 16, 64, links)));
+    cases.extend([8, 16, 32, 64].map(|tasks| case("by tasks", 1, 8, tasks, 3 * tasks)));
+    cases.extend([0, 128, 256, 512].map(|links| case("by links", 1, 16, 64, links)));
+    cases.push(case("maximum, version 2", 2, 16, 64, 512));
     cases
 }
 
-fn case(name: &'static str, nodes: usize, tasks: usize, links: usize) -> Case {
-    Case { name, sized: planned(nodes, tasks, links) }
+fn case(name: &'static str, version: u64, nodes: usize, tasks: usize, links: usize) -> Case {
+    Case { name, sized: planned(version, nodes, tasks, links) }
 }
 
 fn call(console: &Console, case: &Case, work: Work, out: &mut [u8]) -> u64 {

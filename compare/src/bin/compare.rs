@@ -9,14 +9,10 @@ use compare::foreign::{LIBRARY, PLAIN, TUNED};
 use compare::random::Random;
 use compare::refusal::WORDS;
 use compare::rounds;
-use compare::trial::{Mismatch, Tally, Trial, PASSED_NEWLY, PLANNED_NEWLY};
+use compare::trial::{Mismatch, Tally, Trial};
 
 const DEFAULT_COUNT: u64 = 5_000;
 const DEFAULT_SEED: u64 = 1;
-const LEAST_PASSED: u64 = 10_000;
-const LEAST_PASSED_DEEP: u64 = 1_000;
-const LEAST_PASSED_NEWLY: u64 = 200;
-const LEAST_PLANNED_NEWLY: u64 = 100;
 
 const USAGE: &str = "usage: compare [--count JOBS] [--seed NUMBER] [--out FOLDER] [--pair FOLDER]
                [--console library|plain|tuned|second]
@@ -117,21 +113,14 @@ fn report(mismatch: &Mismatch, folder: &Path) {
     }
 }
 
-/// What a run did not meet. The numbers of plans are asked for from the default count on.
+/// What a run did not meet. Beside refusals it is asked for from the default count on.
 fn missed(tally: &Tally, count: u64) -> Vec<String> {
     let numbers = (1..WORDS.len()).filter(|&number| tally.met(number) == 0);
     let mut complaints: Vec<String> =
         numbers.map(|number| format!("refusal {number}, {}, was not met", WORDS[number])).collect();
     if count >= DEFAULT_COUNT {
-        let deep = "passed plans with a path of two weak links or more";
-        let demands = [
-            (tally.passed, LEAST_PASSED, "passed plans"),
-            (tally.passed_deep, LEAST_PASSED_DEEP, deep),
-            (tally.passed_newly, LEAST_PASSED_NEWLY, PASSED_NEWLY),
-            (tally.planned_newly, LEAST_PLANNED_NEWLY, PLANNED_NEWLY),
-        ];
-        let short = demands.into_iter().filter(|(met, least, _)| met < least);
-        complaints.extend(short.map(|(met, least, what)| format!("{met} {what}, not {least}")));
+        let short = tally.counts().filter(|count| count.met < count.least);
+        complaints.extend(short.map(|c| format!("{}: {}, not {}", c.words, c.met, c.least)));
     }
     complaints
 }

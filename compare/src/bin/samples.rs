@@ -1,4 +1,5 @@
-//! Runs the samples of document 01 on all implementations, and looks at the library's stack.
+//! Runs the samples of document 01 and of request (ii) on all implementations, and looks at the
+//! library's stack.
 
 use std::process::ExitCode;
 
@@ -16,8 +17,8 @@ fn main() -> ExitCode {
         }
         good &= faults.is_empty();
     }
-    good &= stack_suffices();
-    if good {
+    // A library that differs may refuse the jobs on which stack is measured.
+    if good && stack_suffices() {
         ExitCode::SUCCESS
     } else {
         ExitCode::FAILURE

@@ -7,17 +7,17 @@ use native.Mathlib.Omega.{arith}
 use lib.Dec.{eqb, leb}
 use Rattle.reader.specs.declared.job.Job.{Job}
 use Rattle.reader.specs.declared.plan.Plan.{Plan}
-use Rattle.reader.specs.declared.refusal.Refusal.the-variants.{SameNode, Early, Late}
+use Rattle.reader.specs.declared.refusal.Refusal.the-variants.{SameNode, TooSoon, Early, Late}
 use Rattle.reader.specs.declared.refusal.Answer.{Answer}
 use Rattle.reader.specs.First.{_or-else_}
 use Rattle.reader.specs.Limits.{maxTasks, maxStart}
-use Rattle.reader.specs.Entries.{nodes, tasks, detect, deadline, task, place}
+use Rattle.reader.specs.Entries.{nodes, tasks, detect, ready, deadline, task, place}
 use Rattle.reader.specs.Refusals.{answered}
 use Rattle.reader.specs.Sound.{Sound, PlanSound}
 use Rattle.reader.proofs.TestLaws.{below-suc}
 use Rattle.rules.specs.declared.Copy.{Copy}
 use Rattle.rules.specs.Copies.{copy, domain}
-use Rattle.rules.specs.Rules.{rows, ruleA, ruleB, ruleC}
+use Rattle.rules.specs.Rules.{rows, ruleA, ruleReady, ruleB, ruleC}
 use Rattle.rules.specs.Judge.{firstTask}
 use Rattle.rules.proofs.FaultSetLaws.{row-primary, row-backup}
 use Rattle.copies.specs.declared.table.Copies.{Copies}
@@ -47,15 +47,16 @@ pub detect-fits : (job : Job) (plan : Plan) → Placeable (job .tasks) (job .nod
 detect-fits job plan h j low p is = rw is (omega (arith, h .primary j low .ends, h .detects j low))
 
 -- after the first j tasks
-pub record Placing (job : Job) (plan : Plan) (j : ℕ) (cs : Copies) (same early late : ℕ) : Type 0 where
+pub record Placing (job : Job) (plan : Plan) (j : ℕ) (cs : Copies) (same soon early late : ℕ) : Type 0 where
   pub within : j ≤ tasks job
   pub tabled : Tabled job plan j cs
   pub a : same ≡ firstBroken j (λ i. ruleA job (rows job plan i))
+  pub ready : soon ≡ firstBroken j (λ i. ruleReady job i (rows job plan i .primary))
   pub b : early ≡ firstBroken j (λ i. ruleB job (rows job plan i))
   pub c : late ≡ firstBroken j (λ i. ruleC job i (rows job plan i))
 
 module _ (job : Job) (plan : Plan) where
-  pub placing-start : (cs : Copies) → Whole cs → Placing job plan 0 cs nowhere nowhere nowhere
+  pub placing-start : (cs : Copies) → Whole cs → Placing job plan 0 cs nowhere nowhere nowhere nowhere
   placing-start cs whole =
       record {
         within = omega arith;
@@ -66,6 +67,7 @@ module _ (job : Job) (plan : Plan) where
               primary-set = λ j p. absurd (not-suc-le-zero p);
             };
         a = note-start _;
+        ready = note-start _;
         b = note-start _;
         c = note-start _;
       }
@@ -91,18 +93,20 @@ module _ (job : Job) (plan : Plan) where
       }
 
   -- one task more, with its copies p and b
-  pub placing-more : tasks job ≤ maxTasks → (j : ℕ) (cs : Copies) (same early late : ℕ) → Placing job plan j cs same early late → j < tasks job
+  pub placing-more : tasks job ≤ maxTasks → (j : ℕ) (cs : Copies) (same soon early late : ℕ)
+      → Placing job plan j cs same soon early late → j < tasks job
       → (p b : Copy)
       → p ≡ copyOn (task job j) (place plan j .«primary_node») (place plan j .«primary_start»)
       → b ≡ copyOn (task job j) (place plan j .«backup_node») (place plan j .«backup_start»)
-      → (x y z : ℕ)
+      → (x w y z : ℕ)
       → x ≡ notedOf same j (not (eqb (p .node) (b .node)))
+      → w ≡ notedOf soon j (leb (ready job j) (p .start))
       → y ≡ notedOf early j (leb (p .finish + detect job (p .node)) (b .start))
       → z ≡ notedOf late j (leb (b .finish) (deadline job j))
       → (ds es : Copies) → Stored cs (2 * j) p everyNode ds → Stored ds (2 * j + 1) b everyNode es → Whole es
-      → Placing job plan (j + 1) es x y z
-  unfolding copy domain ruleA ruleB ruleC
-  placing-more most j cs same early late h low p b ip ib x y z ex ey ez ds es first second whole =
+      → Placing job plan (j + 1) es x w y z
+  unfolding copy domain ruleA ruleReady ruleB ruleC
+  placing-more most j cs same soon early late h low p b ip ib x w y z ex ew ey ez ds es first second whole =
       let ep : p ≡ rows job plan j .primary = ip ∙ sym (row-primary job plan (tasks job) j low) in
       let eb : b ≡ rows job plan j .backup = ib ∙ sym (row-backup job plan (tasks job) j low) in
       let small : j < nowhere = omega arith in
@@ -110,21 +114,25 @@ module _ (job : Job) (plan : Plan) where
         within = omega arith;
         tabled = tabled-more j cs ds es p b first second whole ep eb (h .tabled);
         a = note-more _ j same x _ small (h .a) (ap₂ (λ (c d : Copy). not (eqb (c .node) (d .node))) ep eb) ex;
+        ready = note-more _ j soon w _ small (h .ready) (ap (λ (c : Copy). leb (ready job j) (c .start)) ep) ew;
         b = note-more _ j early y _ small (h .b) (ap₂ (λ (c d : Copy). leb (c .finish + detect job (c .node)) (d .start)) ep eb) ey;
         c = note-more _ j late z _ small (h .c) (ap (λ (d : Copy). leb (d .finish) (deadline job j)) eb) ez;
       }
 
-  pub placing-done : tasks job ≤ maxTasks → (j : ℕ) (cs : Copies) (same early late : ℕ) → Placing job plan j cs same early late → tasks job ≤ j
-      → (v : Answer) → v ≡ answered (seen SameNode same or-else seen Early early or-else seen Late late) → TasksJudged job plan cs v
+  pub placing-done : tasks job ≤ maxTasks → (j : ℕ) (cs : Copies) (same soon early late : ℕ)
+      → Placing job plan j cs same soon early late → tasks job ≤ j
+      → (v : Answer) → v ≡ answered (seen SameNode same or-else seen TooSoon soon or-else seen Early early or-else seen Late late)
+      → TasksJudged job plan cs v
   unfolding byTasks firstTask
-  placing-done most j cs same early late h end v e =
+  placing-done most j cs same soon early late h end v e =
       let d : j ≡ tasks job = omega (arith, h .within) in
-      let g = subst (λ n. Placing job plan n cs same early late) d h in
+      let g = subst (λ n. Placing job plan n cs same soon early late) d h in
       let few : tasks job ≤ nowhere = omega arith in
       record {
         tabled = g .tabled;
         answer =
             e ∙ ap answered
             (ap₂ _or-else_ (note-seen _ (tasks job) same few (g .a) SameNode)
-            (ap₂ _or-else_ (note-seen _ (tasks job) early few (g .b) Early) (note-seen _ (tasks job) late few (g .c) Late)));
+            (ap₂ _or-else_ (note-seen _ (tasks job) soon few (g .ready) TooSoon)
+            (ap₂ _or-else_ (note-seen _ (tasks job) early few (g .b) Early) (note-seen _ (tasks job) late few (g .c) Late))));
       }

@@ -1,4 +1,4 @@
--- What the pass over the tasks gives: the plan's copies, and the answer of A, B and C.
+-- What the pass over the tasks gives: the plan's copies, and the answer of A, the ready time, B and C.
 use Prim.Native.Nat.{ℕ, _+_, _*_, _≤_, _<_}
 use mathlib.Core.List.{List}
 use mathlib.Core.Path.{_≡_}
@@ -57,7 +57,7 @@ pub record Tabled (job : Job) (plan : Plan) (n : ℕ) (cs : Copies) : Type 0 whe
   pub copied : Copied job plan n (entry cs)
   pub primary-set : (j : ℕ) → j < n → setAt cs (2 * j) ≡ everyNode
 
--- the table of all tasks, and the answer of A, B and C
+-- the table of all tasks, and the answer of A, the ready time, B and C
 pub record TasksJudged (job : Job) (plan : Plan) (cs : Copies) (r : Answer) : Type 0 where
   pub tabled : Tabled job plan (tasks job) cs
   pub answer : r ≡ answered (byTasks job (rows job plan))

@@ -1,4 +1,4 @@
-// The judge: the rules of a plan, A to G in turn.
+// The judge: the rules of a plan, A to G in turn, the ready time after A.
 pub mod backups;
 pub mod faults;
 pub mod links;

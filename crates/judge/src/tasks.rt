@@ -1,4 +1,4 @@
-// One pass over the tasks: the table of copies, and the first task that breaks A, B or C.
+// One pass over the tasks: the table of copies, and the first task that breaks A, the ready time, B or C.
 use crate::note::NONE;
 use crate::note::noted;
 use copies::sets::ALL;
@@ -14,7 +14,7 @@ use rules::Copy;
 ghost use mathlib.Core.Path.{_≡_};
 ghost use Prim.Native.Nat.{_<_};
 ghost use Rattle.reader.specs.declared.job.Job.{Job};
-ghost use Rattle.reader.specs.declared.refusal.Refusal.the-variants.{SameNode, Early, Late};
+ghost use Rattle.reader.specs.declared.refusal.Refusal.the-variants.{SameNode, TooSoon, Early, Late};
 ghost use Rattle.reader.specs.First.{_or-else_};
 ghost use Rattle.reader.specs.Limits.{maxNodes};
 ghost use Rattle.reader.specs.Refusals.{answered};
@@ -34,12 +34,15 @@ fn copy_of(task: Task, node: u32, start: u32) -> Copy
     }
 }
 
-// The first refusal, where the first tasks that break A, B and C are noted.
-fn task_answer(same: usize, early: usize, late: usize) -> Answer
-    ensures { λ r. ⌜ r ≡ answered (seen SameNode same or-else seen Early early or-else seen Late late) ⌝ }
+// The first refusal, where the first tasks that break A, the ready time, B and C are noted.
+fn task_answer(same: usize, soon: usize, early: usize, late: usize) -> Answer
+    ensures { λ r. ⌜ r ≡ answered (seen SameNode same or-else seen TooSoon soon or-else seen Early early or-else seen Late late) ⌝ }
 {
     if same != NONE {
         return Answer::Refused(Refusal::SameNode(same));
+    }
+    if soon != NONE {
+        return Answer::Refused(Refusal::TooSoon(soon));
     }
     if early != NONE {
         return Answer::Refused(Refusal::Early(early));
@@ -66,6 +69,7 @@ pub fn place_copies(
         → TasksJudged (tasked job tasks nodes n) plan (table (now (node .exit)) (now (start .exit)) (now (finish .exit)) (now (sets .exit))) r) ⌝ }
 {
     let mut same = NONE;
+    let mut soon = NONE;
     let mut early = NONE;
     let mut late = NONE;
     let mut j: usize = 0;
@@ -77,6 +81,7 @@ pub fn place_copies(
         let q = p.node as usize;
         let own = nodes[q];
         same = noted(same, j, p.node != b.node);
+        soon = noted(soon, j, task.ready <= p.start);
         early = noted(early, j, p.finish + own.detect <= b.start);
         late = noted(late, j, b.finish <= task.deadline);
         let k = 2 * j;
@@ -84,5 +89,5 @@ pub fn place_copies(
         put(node, start, finish, sets, k + 1, b, ALL);
         j += 1;
     }
-    task_answer(same, early, late)
+    task_answer(same, soon, early, late)
 }

@@ -17,12 +17,12 @@ use Rattle.reader.specs.First.{every, when}
 use Rattle.reader.specs.Limits.{maxNodes, maxTime}
 use Rattle.reader.specs.Entries.{nodes, tasks, links, link, task, deadline, detect, run, noNode}
 use Rattle.reader.specs.Sound.{Sound}
-use Rattle.reader.proofs.TestLaws.{split, clash, not-i, not-e, not-true, and-yes, and-no, and-unless}
+use Rattle.reader.proofs.TestLaws.{split, clash, not-i, not-e, not-true, and-yes, and-no, and-unless, and-join}
 use Rattle.reader.proofs.FirstLaws.{first-same, every-same, any-same}
 use Rattle.rules.specs.declared.Copy.{Copy}
 use Rattle.rules.specs.Copies.{copy, inTime, domain}
 use Rattle.rules.specs.Copies.{delay as delayOfLink}
-use Rattle.rules.specs.Rules.{Row, row, strong, carries, faultSet, ruleA, ruleB, ruleD, ruleE, ruleF, ruleGBackup}
+use Rattle.rules.specs.Rules.{Row, row, strong, carries, faultSet, ruleA, ruleReady, ruleB, ruleD, ruleE, ruleF, ruleGBackup}
 use Rattle.rules.specs.Attempts.{_>>=_, _or-refuse_}
 use Rattle.rules.specs.Planner.{earliest, primaryKeeps, primaryMay, backupKeeps, placeTask}
 use Rattle.rules.specs.Choice.{Best, backupKeepsBeside}
@@ -103,10 +103,10 @@ swap true false c = refl
 swap false true c = refl
 swap false false c = refl
 
-four : (n a d g u : Bool) → u ≡ (d and a) → (n and u and g) ≡ ((n and a) and d and g)
+five : (n a r d g u : Bool) → u ≡ (d and a and r) → (n and u and g) ≡ ((n and a) and r and d and g)
 unfolding _and_
-four true a d g u e = rw e (swap a d g)
-four false a d g u e = refl
+five true a r d g u e = rw e (swap (a and r) d g ∙ and-join a r (d and g))
+five false a r d g u e = refl
 
 shuffle : (ra rb re rf rg x : Bool) → (rf ≡ true → ra ≡ true) → x ≡ (re and rb) → (rf and x and rg) ≡ (ra and rb and re and rf and rg)
 unfolding _and_
@@ -191,10 +191,21 @@ module _ (next from delay : List ℕ) (cs : Copies) (before last : List ℕ) (wa
       (λ e. rw e (ap (fedBy set c) (sends-is m b) ∙ h m b (eqb-true (key m) j e)))
       (λ e. rw e))
 
+  -- the least start of the primary, whatever its inputs
+  abbrev soonest : ℕ
+  soonest = max (want .least) (want .task .ready)
+
+  soonest-most : soonest ≤ latestInput
+  soonest-most = omega (arith, w .least-most, ap (λ t. t .ready) (w .task-is), w .sound .ready-most j (w .task-of))
+
+  soonest-is : (c : Copy) → leb soonest (c .start) ≡ (leb (want .least) (c .start) and ruleReady job j c)
+  unfolding ruleReady
+  soonest-is c = leb-max (want .least) _ (c .start) ∙ ap (λ t. leb (want .least) (c .start) and leb (t .ready) (c .start)) (w .task-is)
+
   -- the primary's search
   module _ (fed : Ready) (given : Fed 0 fed) (s : Search) (is-s : s ≡ primarySearch (want .task) (want .count) fed (want .least) (want .shut)) where
     pub primary-ready : Searched cs before last s
-    primary-ready = subst (Searched cs before last) (sym is-s) (searched fed (want .least) everyNode (want .shut) (w .least-most) (given .most))
+    primary-ready = subst (Searched cs before last) (sym is-s) (searched fed soonest everyNode (want .shut) soonest-most (given .most))
 
     abbrev may : Copy → Bool
     may = primaryMay job (primaryFrom (want .least) (want .shut)) (w .rows) (rowOf cs) j
@@ -208,9 +219,9 @@ module _ (next from delay : List ℕ) (cs : Copies) (before last : List ℕ) (wa
         → fits cs last (primarySearch (want .task) (want .count) fed (want .least) (want .shut)) c ≡ may c
     unfolding fits nodeOk freeFrom primaryKeeps primaryFrom
     primary-fits c p q =
-        ap (λ g. not (has (want .shut) (c .node)) and leb (max (readyOn fed (c .node)) (want .least)) (c .start) and g)
+        ap (λ g. not (has (want .shut) (c .node)) and leb (max (readyOn fed (c .node)) soonest) (c .start) and g)
         (free-all everyNode c p ∙ free-primary job cs (w .rows) (w .sound .nodes-most) (w .beside .held) c q)
-        ∙ four _ (leb (want .least) (c .start)) _ _ _ (leb-max _ (want .least) (c .start) ∙ ap (λ d. d and leb (want .least) (c .start)) (d-is c))
+        ∙ five _ _ (ruleReady job j c) _ _ _ (leb-max _ soonest (c .start) ∙ ap₂ (λ d u. d and u) (d-is c) (soonest-is c))
 
     module _ (a : Slot) (is-a : Gave s a) where
       the-primary : slotCopy a ≡ earliest job j may

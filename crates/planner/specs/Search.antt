@@ -78,10 +78,10 @@ unfoldable pub fits : Copies → List ℕ → Search → Copy → Bool
 fits cs last search c =
     nodeOk cs (search .set) (getD last (c .node) 0) (max (readyOn (search .ready) (c .node)) (search .least)) (search .barred) c
 
--- the searches for a task's primary, and for its backup
+-- the searches for a task's primary, which keeps the ready time, and for its backup
 abbrev pub primarySearch : Task → ℕ → Ready → ℕ → ℕ → Search
 primarySearch task nodes ready least shut =
-    record { task = task; nodes = nodes; ready = ready; least = least; set = everyNode; barred = shut }
+    record { task = task; nodes = nodes; ready = ready; least = max least (task .ready); set = everyNode; barred = shut }
 
 abbrev pub backupSearch : Task → ℕ → Ready → ℕ → ℕ → Search
 backupSearch task nodes ready least set = record { task = task; nodes = nodes; ready = ready; least = least; set = set; barred = set }

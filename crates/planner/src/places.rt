@@ -1,6 +1,7 @@
 // The searches for a task's copies, and the plan of all.
 use crate::inputs::Ready;
 use crate::search::Search;
+use copies::arrival::later;
 use copies::sets::ALL;
 use copies::table::Copies;
 use reader::job::Task;
@@ -12,6 +13,7 @@ ghost use Rattle.reader.specs.Limits.{maxTasks};
 ghost use Rattle.planner.specs.Search.{primarySearch, backupSearch};
 ghost use Rattle.planner.specs.Tasks.{listed, placesTo};
 
+// A primary starts no sooner than its task's ready time.
 pub fn primary_search(task: Task, nodes: usize, ready: Ready, least: u32, shut: u32) -> Search
     ensures { λ r. ⌜ r ≡ primarySearch task nodes ready least shut ⌝ }
 {
@@ -19,7 +21,7 @@ pub fn primary_search(task: Task, nodes: usize, ready: Ready, least: u32, shut: 
         task,
         nodes,
         ready,
-        least,
+        least: later(least, task.ready),
         set: ALL,
         barred: shut,
     }

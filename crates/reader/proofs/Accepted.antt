@@ -11,65 +11,82 @@ use Rattle.reader.specs.declared.job.Link.{Link}
 use Rattle.reader.specs.declared.job.Job.{Job}
 use Rattle.reader.specs.declared.refusal.Refusal.the-variants.{Version, Count, Value}
 use Rattle.reader.specs.First.{first}
-use Rattle.reader.specs.Limits.{fileVersion, minNodes, maxNodes, maxDetect, minTasks, maxTasks, minDeadline, maxLinks, maxTime, maxStart}
+use Rattle.reader.specs.Limits.{firstVersion, newestVersion, planVersion, minNodes, maxNodes, minTasks, maxTasks, maxLinks, maxTime, maxStart}
 use Rattle.reader.specs.Entries.{nodes, tasks, task}
 use Rattle.reader.specs.Sound.{below}
 use Rattle.reader.specs.Number.{numberAt, valueFault}
-use Rattle.reader.specs.JobFile.{nodeSection, taskSection, linkSection, jobLength, nodeCount, taskCount, linkCount, nodesFault, runFault, taskFault, tasksFault, linkAt, linkFault, linkBefore, linksFault, tailFault, jobFault}
+use Rattle.reader.specs.Fields.{nodeFields, taskFields, width}
+use Rattle.reader.specs.JobFile.{jobVersion, nodeWidth, taskWidth, nodeSection, taskSection, linkSection, jobLength, nodeCount, taskCount, linkCount}
+use Rattle.reader.specs.JobFile.{nodesFault, runFault, taskFault, tasksFault, linkAt, linkFault, linkBefore, linksFault, tailFault, jobFault}
 use Rattle.reader.specs.PlanFile.{nodeFault, placeFault, placesFault, planLength, planFault}
 use Rattle.reader.proofs.FirstLaws.{or-else-l, or-else-r, unless-none, none-first}
 use Rattle.reader.proofs.FieldLaws.{Good, field-good}
+use Rattle.reader.proofs.VersionLaws.{GoodFields, fields-good, fields-room}
 
--- rows of width w from an offset on, each of which lies within the file
-pub rows-room : (at w n end : ℕ) → at ≤ end → ((i : ℕ) → i < n → at + i * w + w ≤ end) → at + n * w ≤ end
+-- rows of width w from an offset on, each of which lies within the file where it begins there
+pub rows-room : (at w n end : ℕ) → at ≤ end → ((i : ℕ) → i < n → at + i * w ≤ end → at + i * w + w ≤ end) → at + n * w ≤ end
 rows-room at w zero end h rows = omega arith
-rows-room at w (suc n) end h rows = omega (arith, rows n (omega arith))
+rows-room at w (suc n) end h rows = omega (arith, rows n (omega arith) (rows-room at w n end h (λ i p. rows i (omega arith))))
 
 -- a row of numbers
-pub fields-good : (s : List ℕ) (n : ℕ) (at : ℕ → ℕ) (low high : ℕ) → first n (λ i. valueFault s (at i) low high) ≡ none → (i : ℕ) → i < n →
+pub numbers-good : (s : List ℕ) (n : ℕ) (at : ℕ → ℕ) (low high : ℕ) → first n (λ i. valueFault s (at i) low high) ≡ none → (i : ℕ) → i < n →
     Good s (at i) low high
-fields-good s n at low high e i p = field-good s (at i) low high (Value (at i)) (none-first n _ e i p)
+numbers-good s n at low high e i p = field-good s (at i) low high (Value (at i)) (none-first n _ e i p)
 
-pub record GoodNodes (s : List ℕ) : Type 0 where
+pub record GoodNodes (v : ℕ) (s : List ℕ) : Type 0 where
   pub count : Good s nodeSection minNodes maxNodes
-  pub detect : (i : ℕ) → i < nodeCount s → Good s (8 + 4 * i) 0 maxDetect
-  pub room : taskSection (nodeCount s) ≤ length s
+  pub entry : (i : ℕ) → i < nodeCount s → GoodFields v s (8 + i * nodeWidth v) nodeFields
+  pub room : taskSection v (nodeCount s) ≤ length s
 
-pub nodes-good : (s : List ℕ) → nodesFault s ≡ none → GoodNodes s
+node-room : (v : ℕ) (s : List ℕ) (at : ℕ) → at ≤ length s → GoodFields v s at nodeFields → at + nodeWidth v ≤ length s
+unfolding nodeWidth
+node-room v s at = fields-room v s at nodeFields
+
+pub nodes-good : (v : ℕ) (s : List ℕ) → nodesFault v s ≡ none → GoodNodes v s
 unfolding nodesFault
-nodes-good s e =
+nodes-good v s e =
     let count = field-good s nodeSection minNodes maxNodes (Count nodeSection) (or-else-l _ _ e) in
-    let detect = fields-good s (nodeCount s) (λ i. 8 + 4 * i) 0 maxDetect (or-else-r _ _ e) in
-    let room = rows-room 8 4 (nodeCount s) (length s) (count .room) (λ i p. omega (arith, detect i p .room)) in
-    record { count = count; detect = detect; room = omega arith }
-
-pub record GoodTask (s : List ℕ) (at p : ℕ) : Type 0 where
-  pub deadline : Good s at minDeadline maxTime
-  pub run : (i : ℕ) → i < p → Good s (at + 4 + 4 * i) 0 maxTime
-  pub room : at + (4 + 4 * p) ≤ length s
-
-pub task-good : (s : List ℕ) (at p : ℕ) → taskFault s at p ≡ none → GoodTask s at p
-unfolding taskFault runFault
-task-good s at p e =
-    let deadline = field-good s at minDeadline maxTime (Value at) (or-else-l _ _ e) in
-    let run = fields-good s p (λ i. at + 4 + 4 * i) 0 maxTime (or-else-r _ _ e) in
-    let room = rows-room (at + 4) 4 p (length s) (deadline .room) (λ i l. omega (arith, run i l .room)) in
-    record { deadline = deadline; run = run; room = omega arith }
-
-pub record GoodTasks (s : List ℕ) (at p : ℕ) : Type 0 where
-  pub count : Good s at minTasks maxTasks
-  pub task : (j : ℕ) → j < numberAt s at → GoodTask s (at + 4 + j * (4 + 4 * p)) p
-  pub room : at + 4 + numberAt s at * (4 + 4 * p) ≤ length s
-
-pub tasks-good : (s : List ℕ) (at p : ℕ) → tasksFault s at p ≡ none → GoodTasks s at p
-unfolding tasksFault
-tasks-good s at p e =
-    let count = field-good s at minTasks maxTasks (Count at) (or-else-l _ _ e) in
-    let each = none-first (numberAt s at) _ (or-else-r _ _ e) in
+    let entry : ((i : ℕ) → i < nodeCount s → GoodFields v s (8 + i * nodeWidth v) nodeFields) =
+    λ i p. fields-good v s _ nodeFields (none-first (nodeCount s) _ (or-else-r _ _ e) i p) in
     record {
       count = count;
-      task = λ j l. task-good s _ p (each j l);
-      room = rows-room (at + 4) (4 + 4 * p) (numberAt s at) (length s) (count .room) (λ j l. task-good s _ p (each j l) .room);
+      entry = entry;
+      room = rows-room 8 (nodeWidth v) (nodeCount s) (length s) (count .room) (λ i p h. node-room v s _ h (entry i p));
+    }
+
+pub record GoodTask (v : ℕ) (s : List ℕ) (at p : ℕ) : Type 0 where
+  pub fields : GoodFields v s at taskFields
+  pub run : (i : ℕ) → i < p → Good s (at + width v taskFields + 4 * i) 0 maxTime
+
+pub task-good : (v : ℕ) (s : List ℕ) (at p : ℕ) → taskFault v s at p ≡ none → GoodTask v s at p
+unfolding taskFault runFault
+task-good v s at p e = record {
+  fields = fields-good v s at taskFields (or-else-l _ _ e);
+  run = numbers-good s p (λ i. at + width v taskFields + 4 * i) 0 maxTime (or-else-r _ _ e);
+}
+
+pub task-room : (v : ℕ) (s : List ℕ) (at p : ℕ) → at ≤ length s → GoodTask v s at p → at + taskWidth v p ≤ length s
+unfolding taskWidth
+task-room v s at p h g =
+    let behind = at + width v taskFields in
+    let room = rows-room behind 4 p (length s) (fields-room v s at taskFields h (g .fields)) (λ i l _. omega (arith, g .run i l .room)) in
+    omega arith
+
+pub record GoodTasks (v : ℕ) (s : List ℕ) (at p : ℕ) : Type 0 where
+  pub count : Good s at minTasks maxTasks
+  pub task : (j : ℕ) → j < numberAt s at → GoodTask v s (at + 4 + j * taskWidth v p) p
+  pub room : at + 4 + numberAt s at * taskWidth v p ≤ length s
+
+pub tasks-good : (v : ℕ) (s : List ℕ) (at p : ℕ) → tasksFault v s at p ≡ none → GoodTasks v s at p
+unfolding tasksFault
+tasks-good v s at p e =
+    let count = field-good s at minTasks maxTasks (Count at) (or-else-l _ _ e) in
+    let task : ((j : ℕ) → j < numberAt s at → GoodTask v s (at + 4 + j * taskWidth v p) p) =
+    λ j l. task-good v s _ p (none-first (numberAt s at) _ (or-else-r _ _ e) j l) in
+    record {
+      count = count;
+      task = task;
+      room = rows-room (at + 4) (taskWidth v p) (numberAt s at) (length s) (count .room) (λ j l h. task-room v s _ p h (task j l));
     }
 
 pub record GoodLink (s : List ℕ) (at n : ℕ) (before : Link) : Type 0 where
@@ -98,7 +115,7 @@ unfolding linksFault
 links-good s at n e =
     let count = field-good s at 0 maxLinks (Count at) (or-else-l _ _ e) in
     let each = none-first (numberAt s at) _ (or-else-r _ _ e) in
-    let room = rows-room (at + 4) 12 (numberAt s at) (length s) (count .room) (λ k l. omega (arith, link-good s _ n _ (each k l) .delay .room)) in
+    let room = rows-room (at + 4) 12 (numberAt s at) (length s) (count .room) (λ k l _. omega (arith, link-good s _ n _ (each k l) .delay .room)) in
     record { count = count; link = λ k l. link-good s _ n _ (each k l); room = omega arith }
 
 pub tail-most : (s : List ℕ) (end : ℕ) → tailFault s end ≡ none → length s ≤ end
@@ -106,11 +123,11 @@ unfolding tailFault
 tail-most s end e = leb-true (length s) end (unless-none _ _ e)
 
 pub record GoodJob (s : List ℕ) : Type 0 where
-  pub version : Good s 0 fileVersion fileVersion
-  pub nodes : GoodNodes s
-  pub tasks : GoodTasks s (taskSection (nodeCount s)) (nodeCount s)
-  pub links : GoodLinks s (linkSection (nodeCount s) (taskCount s)) (taskCount s)
-  pub most : length s ≤ jobLength (nodeCount s) (taskCount s) (linkCount s)
+  pub version : Good s 0 firstVersion newestVersion
+  pub nodes : GoodNodes (jobVersion s) s
+  pub tasks : GoodTasks (jobVersion s) s (taskSection (jobVersion s) (nodeCount s)) (nodeCount s)
+  pub links : GoodLinks s (linkSection (jobVersion s) (nodeCount s) (taskCount s)) (taskCount s)
+  pub most : length s ≤ jobLength (jobVersion s) (nodeCount s) (taskCount s) (linkCount s)
 
 pub job-good : (s : List ℕ) → jobFault s ≡ none → GoodJob s
 unfolding jobFault
@@ -119,11 +136,11 @@ job-good s e =
     let t = or-else-r _ _ n in
     let l = or-else-r _ _ t in
     record {
-      version = field-good s 0 fileVersion fileVersion (Version 0) (or-else-l _ _ e);
-      nodes = nodes-good s (or-else-l _ _ n);
-      tasks = tasks-good s (taskSection (nodeCount s)) (nodeCount s) (or-else-l _ _ t);
-      links = links-good s (linkSection (nodeCount s) (taskCount s)) (taskCount s) (or-else-l _ _ l);
-      most = tail-most s (jobLength (nodeCount s) (taskCount s) (linkCount s)) (or-else-r _ _ l);
+      version = field-good s 0 firstVersion newestVersion (Version 0) (or-else-l _ _ e);
+      nodes = nodes-good (jobVersion s) s (or-else-l _ _ n);
+      tasks = tasks-good (jobVersion s) s (taskSection (jobVersion s) (nodeCount s)) (nodeCount s) (or-else-l _ _ t);
+      links = links-good s (linkSection (jobVersion s) (nodeCount s) (taskCount s)) (taskCount s) (or-else-l _ _ l);
+      most = tail-most s (jobLength (jobVersion s) (nodeCount s) (taskCount s) (linkCount s)) (or-else-r _ _ l);
     }
 
 pub record GoodNode (s : List ℕ) (at p : ℕ) (run : List ℕ) : Type 0 where
@@ -157,7 +174,7 @@ place-good s at p run e =
     }
 
 pub record GoodPlan (s : List ℕ) (job : Job) : Type 0 where
-  pub version : Good s 0 fileVersion fileVersion
+  pub version : Good s 0 firstVersion planVersion
   pub count : Good s 4 (tasks job) (tasks job)
   pub place : (j : ℕ) → j < tasks job → GoodPlace s (8 + 16 * j) (nodes job) (task job j .run)
   pub room : planLength (tasks job) ≤ length s
@@ -170,9 +187,9 @@ plan-good s job e =
     let l = or-else-r _ _ c in
     let count = field-good s 4 (tasks job) (tasks job) (Count 4) (or-else-l _ _ c) in
     let each = none-first (tasks job) _ (or-else-l _ _ l) in
-    let room = rows-room 8 16 (tasks job) (length s) (count .room) (λ j p. omega (arith, place-good s _ _ _ (each j p) .backup-start .room)) in
+    let room = rows-room 8 16 (tasks job) (length s) (count .room) (λ j p _. omega (arith, place-good s _ _ _ (each j p) .backup-start .room)) in
     record {
-      version = field-good s 0 fileVersion fileVersion (Version 0) (or-else-l _ _ e);
+      version = field-good s 0 firstVersion planVersion (Version 0) (or-else-l _ _ e);
       count = count;
       place = λ j p. place-good s _ _ _ (each j p);
       room = omega arith;

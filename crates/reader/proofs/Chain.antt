@@ -1,7 +1,5 @@
 -- The laws by which every chain of `let .. else` is proved: each step passes, or stops with its refusal.
-use Prim.Native.Nat.{ℕ}
-use mathlib.Core.List.{List}
-use mathlib.Core.Path.{_≡_, sym, ap, _∙_, subst}
+use mathlib.Core.Path.{_≡_, sym, ap, _∙_}
 use mathlib.Core.Option.{Option, none, some}
 use Rattle.reader.specs.declared.refusal.Refusal.{Refusal}
 use Rattle.reader.specs.declared.refusal.Answer.{Answer}
@@ -12,8 +10,6 @@ use Rattle.reader.specs.First.{_or-else_}
 use Rattle.reader.specs.Number.{faultOf}
 use Rattle.reader.specs.Refusals.{answered}
 use Rattle.reader.specs.Reads.{Reads}
-use Rattle.reader.specs.declared.job.Task.{Task}
-use Rattle.reader.specs.JobFile.{taskFault, taskAt}
 use Rattle.reader.proofs.TestLaws.{never}
 use Rattle.reader.proofs.RefusalLaws.{answered-done, answered-refused}
 
@@ -60,8 +56,3 @@ behind {a} {b} {w} {A} {B} e f reads = record {
   answer-is = reads .answer-is ∙ sym (ap answered (pass b e));
   value-is = λ q. f (reads .value-is (sym (pass b e) ∙ q));
 }
-
--- a task at an equal offset
-pub task-same : (s : List ℕ) (a b p : ℕ) (w : Answer) (t : Task) → a ≡ b
-    → Reads (taskFault s a p) w (t ≡ taskAt s a p) → Reads (taskFault s b p) w (t ≡ taskAt s b p)
-task-same s a b p w t e = subst (λ x. Reads (taskFault s x p) w (t ≡ taskAt s x p)) e

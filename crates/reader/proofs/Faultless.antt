@@ -14,20 +14,21 @@ use Rattle.reader.specs.JobFile.{nodesFault, runFault, taskFault, tasksF
 use Rattle.reader.specs.PlanFile.{nodeFault, placeFault, placesFault, planFault}
 use Rattle.reader.proofs.FirstLaws.{or-else-i, none-unless, first-none}
 use Rattle.reader.proofs.FieldLaws.{Good, good-field}
+use Rattle.reader.proofs.VersionLaws.{good-fields}
 use Rattle.reader.proofs.Accepted.{GoodNodes, GoodTask, GoodTasks, GoodLink, GoodLinks, GoodJob, GoodNode, GoodPlace, GoodPlan}
 
 module _ (s : List ℕ) where
-  good-nodes : GoodNodes s → nodesFault s ≡ none
+  good-nodes : (v : ℕ) → GoodNodes v s → nodesFault v s ≡ none
   unfolding nodesFault
-  good-nodes g = or-else-i _ _ (good-field s _ _ _ _ (g .count)) (first-none _ _ (λ i p. good-field s _ _ _ _ (g .detect i p)))
+  good-nodes v g = or-else-i _ _ (good-field s _ _ _ _ (g .count)) (first-none _ _ (λ i p. good-fields v s _ _ (g .entry i p)))
 
-  good-task : (at p : ℕ) → GoodTask s at p → taskFault s at p ≡ none
+  good-task : (v at p : ℕ) → GoodTask v s at p → taskFault v s at p ≡ none
   unfolding taskFault runFault
-  good-task at p g = or-else-i _ _ (good-field s _ _ _ _ (g .deadline)) (first-none _ _ (λ i l. good-field s _ _ _ _ (g .run i l)))
+  good-task v at p g = or-else-i _ _ (good-fields v s _ _ (g .fields)) (first-none _ _ (λ i l. good-field s _ _ _ _ (g .run i l)))
 
-  good-tasks : (at p : ℕ) → GoodTasks s at p → tasksFault s at p ≡ none
+  good-tasks : (v at p : ℕ) → GoodTasks v s at p → tasksFault v s at p ≡ none
   unfolding tasksFault
-  good-tasks at p g = or-else-i _ _ (good-field s _ _ _ _ (g .count)) (first-none _ _ (λ j l. good-task _ p (g .task j l)))
+  good-tasks v at p g = or-else-i _ _ (good-field s _ _ _ _ (g .count)) (first-none _ _ (λ j l. good-task v _ p (g .task j l)))
 
   good-link : (at n : ℕ) (before : Link) → GoodLink s at n before → linkFault s at n before ≡ none
   unfolding linkFault
@@ -48,8 +49,8 @@ module _ (s : List ℕ) where
   unfolding jobFault
   good-job g =
       or-else-i _ _ (good-field s _ _ _ _ (g .version))
-      (or-else-i _ _ (good-nodes (g .nodes))
-      (or-else-i _ _ (good-tasks _ _ (g .tasks)) (or-else-i _ _ (good-links _ _ (g .links)) (good-tail _ (g .most)))))
+      (or-else-i _ _ (good-nodes _ (g .nodes))
+      (or-else-i _ _ (good-tasks _ _ _ (g .tasks)) (or-else-i _ _ (good-links _ _ (g .links)) (good-tail _ (g .most)))))
 
   good-node : (at p : ℕ) (run : List ℕ) → GoodNode s at p run → nodeFault s at p run ≡ none
   unfolding nodeFault

@@ -19,11 +19,12 @@ use Rattle.reader.specs.declared.refusal.Answer.the-variants.{Done, Refu
 use Rattle.reader.specs.declared.number.Number.{Number}
 use Rattle.reader.specs.declared.number.Number.the-variants.{Is, Fault}
 use Rattle.reader.specs.First.{unless}
-use Rattle.reader.specs.Limits.{minTasks}
+use Rattle.reader.specs.Limits.{newestVersion, minTasks}
 use Rattle.reader.specs.Entries.{emptyJob}
 use Rattle.reader.specs.Number.{numberAt, versionFault, numbered}
 use Rattle.reader.specs.Reads.{Reads}
-use Rattle.reader.specs.JobFile.{nodeSection, taskSection, linkSection, jobLength, nodeCount, taskCount, linkCount, nodesFault, nodesAt, tasksFault, tasksAt, linksFault, linksAt, tailFault, jobFault, jobAt, readJob}
+use Rattle.reader.specs.JobFile.{jobVersion, taskWidth, nodeSection, taskSection, linkSection, jobLength, nodeCount, taskCount, linkCount, nodesFault}
+use Rattle.reader.specs.JobFile.{nodesAt, tasksFault, tasksAt, linksFault, linksAt, tailFault, jobFault, jobAt, readJob}
 use Rattle.reader.proofs.NumberLaws.{is-none, is-value, is-fault}
 use Rattle.reader.proofs.Chain.{pass, stop, reads-none, reads-some, reads-value}
 use Rattle.reader.proofs.Accepted.{nodes-good, tasks-good}
@@ -45,88 +46,104 @@ pub tail-some : (s : List ℕ) (e : ℕ) → e < length s → tailFault s e ≡ 
 unfolding tailFault unless
 tail-some s e h = rw (lt-leb (length s) e h)
 
-module _ (s : List ℕ) (v : Number) (ev : v ≡ numbered (versionFault s) (numberAt s 0)) where
+module _ (s : List ℕ) (v : Number) (ev : v ≡ numbered (versionFault newestVersion s) (numberAt s 0)) where
   pub bad-version : {r : Refusal} → v ≡ Fault r → jobFault s ≡ some r
   unfolding jobFault
   bad-version q = stop _ (is-fault v _ _ ev q)
 
   module _ (x : ℕ) (qv : v ≡ Is x) (ns : Nodes)
-      (en : Reads (nodesFault s) (ns .answer) ((ns .count ≡ numberAt s nodeSection) × (ns .list ≡ nodesAt s (ns .count)))) where
+      (en : Reads (nodesFault x s) (ns .answer)
+      ((ns .count ≡ numberAt s nodeSection) × (ns .list ≡ nodesAt x s (ns .count)) × (ns .end ≡ taskSection x (ns .count)))) where
+    version-is : x ≡ jobVersion s
+    version-is = is-value v _ _ ev qv
+
+    nodes-read : Reads (nodesFault (jobVersion s) s) (ns .answer)
+        ((ns .count ≡ nodeCount s) × (ns .list ≡ nodesAt (jobVersion s) s (ns .count)) × (ns .end ≡ taskSection (jobVersion s) (ns .count)))
+    nodes-read =
+        subst
+        (λ x. Reads (nodesFault x s) (ns .answer) ((ns .count ≡ nodeCount s) × (ns .list ≡ nodesAt x s (ns .count)) × (ns .end ≡ taskSection x (ns .count))))
+        version-is en
+
     pub bad-nodes : {r : Refusal} → ns .answer ≡ Refused r → jobFault s ≡ some r
     unfolding jobFault
-    bad-nodes q = pass _ (is-none v _ _ ev qv) ∙ stop _ (reads-some en q)
+    bad-nodes q = pass _ (is-none v _ _ ev qv) ∙ stop _ (reads-some nodes-read q)
 
     module _ (qn : ns .answer ≡ Done) where
       node-count : ns .count ≡ nodeCount s
-      node-count = reads-value en qn .0
+      node-count = reads-value nodes-read qn .0
 
-      pub node-room : 8 + 4 * ns .count ≤ length s
-      node-room = omega (arith, nodes-good s (reads-none en qn) .room, node-count)
+      nodes-end : ns .end ≡ taskSection (jobVersion s) (nodeCount s)
+      nodes-end = reads-value nodes-read qn .2 ∙ ap (λ p. taskSection (jobVersion s) p) node-count
+
+      pub node-room : ns .end ≤ length s
+      node-room = omega (arith, nodes-good (jobVersion s) s (reads-none nodes-read qn) .room, nodes-end)
 
       -- the tasks are read from the part of the file behind the nodes
       module _ (ts : Tasks)
-          (et : (file : List ℕ) → drop (taskSection (ns .count)) file ≡ take (length s - taskSection (ns .count)) (drop (taskSection (ns .count)) s)
-          → Reads (tasksFault file (taskSection (ns .count)) (ns .count)) (ts .answer)
-          ((ts .count ≡ numberAt file (taskSection (ns .count))) × (ts .list ≡ tasksAt file (taskSection (ns .count)) (ns .count) (ts .count)))) where
-        tasks-read : Reads (tasksFault s (taskSection (nodeCount s)) (nodeCount s)) (ts .answer)
-            ((ts .count ≡ taskCount s) × (ts .list ≡ tasksAt s (taskSection (nodeCount s)) (nodeCount s) (ts .count)))
+          (et : (file : List ℕ) → drop (ns .end) file ≡ take (length s - ns .end) (drop (ns .end) s)
+          → Reads (tasksFault x file (ns .end) (ns .count)) (ts .answer)
+          ((ts .count ≡ numberAt file (ns .end)) × (ts .list ≡ tasksAt x file (ns .end) (ns .count) (ts .count))
+          × (ts .end ≡ ns .end + 4 + ts .count * taskWidth x (ns .count)))) where
+        abbrev Behind : ℕ → ℕ → ℕ → Type 0
+        Behind x at p =
+            Reads (tasksFault x s at p) (ts .answer)
+            ((ts .count ≡ numberAt s at) × (ts .list ≡ tasksAt x s at p (ts .count)) × (ts .end ≡ at + 4 + ts .count * taskWidth x p))
+
+        tasks-read : Behind (jobVersion s) (taskSection (jobVersion s) (nodeCount s)) (nodeCount s)
         tasks-read =
-            subst
-            (λ p. Reads (tasksFault s (taskSection p) p) (ts .answer)
-            ((ts .count ≡ numberAt s (taskSection p)) × (ts .list ≡ tasksAt s (taskSection p) p (ts .count))))
-            node-count (et s (rest-part s (taskSection (ns .count))))
+            subst (λ x. Behind x (taskSection (jobVersion s) (nodeCount s)) (nodeCount s)) version-is
+            (subst (λ at. Behind x at (nodeCount s)) nodes-end
+            (subst (λ p. Behind x (ns .end) p) node-count (et s (rest-part s (ns .end)))))
 
         pub bad-tasks : {r : Refusal} → ts .answer ≡ Refused r → jobFault s ≡ some r
         unfolding jobFault
-        bad-tasks q = pass _ (is-none v _ _ ev qv) ∙ pass _ (reads-none en qn) ∙ stop _ (reads-some tasks-read q)
+        bad-tasks q = pass _ (is-none v _ _ ev qv) ∙ pass _ (reads-none nodes-read qn) ∙ stop _ (reads-some tasks-read q)
 
         module _ (qt : ts .answer ≡ Done) where
           task-count : ts .count ≡ taskCount s
           task-count = reads-value tasks-read qt .0
 
+          tasks-end : ts .end ≡ linkSection (jobVersion s) (nodeCount s) (taskCount s)
+          tasks-end = reads-value tasks-read qt .2 ∙ ap (λ n. linkSection (jobVersion s) (nodeCount s) n) task-count
+
           pub task-least : minTasks ≤ ts .count
-          task-least = omega (arith, tasks-good s _ _ (reads-none tasks-read qt) .count .least, task-count)
+          task-least = omega (arith, tasks-good (jobVersion s) s _ _ (reads-none tasks-read qt) .count .least, task-count)
 
           module _ (ls : Links)
-              (el : Reads (linksFault s (linkSection (ns .count) (ts .count)) (ts .count)) (ls .answer)
-              ((ls .count ≡ numberAt s (linkSection (ns .count) (ts .count))) × (ls .list ≡ linksAt s (linkSection (ns .count) (ts .count)) (ls .count)))) where
-            links-read : Reads (linksFault s (linkSection (nodeCount s) (taskCount s)) (taskCount s)) (ls .answer)
-                ((ls .count ≡ linkCount s) × (ls .list ≡ linksAt s (linkSection (nodeCount s) (taskCount s)) (ls .count)))
+              (el : Reads (linksFault s (ts .end) (ts .count)) (ls .answer)
+              ((ls .count ≡ numberAt s (ts .end)) × (ls .list ≡ linksAt s (ts .end) (ls .count)))) where
+            links-read : Reads (linksFault s (linkSection (jobVersion s) (nodeCount s) (taskCount s)) (taskCount s)) (ls .answer)
+                ((ls .count ≡ linkCount s) × (ls .list ≡ linksAt s (linkSection (jobVersion s) (nodeCount s) (taskCount s)) (ls .count)))
             links-read =
                 subst
-                (λ p. Reads (linksFault s (linkSection p (taskCount s)) (taskCount s)) (ls .answer)
-                ((ls .count ≡ numberAt s (linkSection p (taskCount s))) × (ls .list ≡ linksAt s (linkSection p (taskCount s)) (ls .count))))
-                node-count
+                (λ at. Reads (linksFault s at (taskCount s)) (ls .answer) ((ls .count ≡ numberAt s at) × (ls .list ≡ linksAt s at (ls .count))))
+                tasks-end
                 (subst
-                (λ n. Reads (linksFault s (linkSection (ns .count) n) n) (ls .answer)
-                ((ls .count ≡ numberAt s (linkSection (ns .count) n)) × (ls .list ≡ linksAt s (linkSection (ns .count) n) (ls .count))))
+                (λ n. Reads (linksFault s (ts .end) n) (ls .answer) ((ls .count ≡ numberAt s (ts .end)) × (ls .list ≡ linksAt s (ts .end) (ls .count))))
                 task-count el)
 
             pub bad-links : {r : Refusal} → ls .answer ≡ Refused r → jobFault s ≡ some r
             unfolding jobFault
             bad-links q =
                 pass _ (is-none v _ _ ev qv)
-                ∙ pass _ (reads-none en qn)
+                ∙ pass _ (reads-none nodes-read qn)
                 ∙ pass _ (reads-none tasks-read qt)
                 ∙ stop _ (reads-some links-read q)
 
             module _ (ql : ls .answer ≡ Done) where
-              end-is : jobLength (ns .count) (ts .count) (ls .count) ≡ jobLength (nodeCount s) (taskCount s) (linkCount s)
-              end-is =
-                  ap₂ (λ p n. jobLength p n (ls .count)) node-count task-count
-                  ∙ ap (λ m. jobLength (nodeCount s) (taskCount s) m) (reads-value links-read ql .0)
+              end-is : ts .end + 4 + 12 * ls .count ≡ jobLength (jobVersion s) (nodeCount s) (taskCount s) (linkCount s)
+              end-is = ap₂ (λ at m. at + 4 + 12 * m) tasks-end (reads-value links-read ql .0)
 
-              to-tail : jobFault s ≡ tailFault s (jobLength (ns .count) (ts .count) (ls .count))
+              to-tail : jobFault s ≡ tailFault s (ts .end + 4 + 12 * ls .count)
               unfolding jobFault
               to-tail =
                   pass _ (is-none v _ _ ev qv)
-                  ∙ pass _ (reads-none en qn)
+                  ∙ pass _ (reads-none nodes-read qn)
                   ∙ pass _ (reads-none tasks-read qt)
                   ∙ pass _ (reads-none links-read ql)
                   ∙ ap (tailFault s) (sym end-is)
 
-              pub bad-tail : jobLength (ns .count) (ts .count) (ls .count) < length s
-                  → jobFault s ≡ some (Tail (jobLength (ns .count) (ts .count) (ls .count)))
+              pub bad-tail : ts .end + 4 + 12 * ls .count < length s → jobFault s ≡ some (Tail (ts .end + 4 + 12 * ls .count))
               bad-tail h = to-tail ∙ tail-some s _ h
 
               job-is : _≡_ {A = Job} (record {
@@ -140,16 +157,17 @@ module _ (s : List ℕ) (v : Number) (ev : v ≡ numbered (versionFault s) (numb
               }) (jobAt s)
               unfolding jobAt
               job-is =
-                  let ex : x ≡ numberAt s 0 = is-value v _ _ ev qv in
+                  let ex = version-is in
                   let ep = node-count in
-                  let en : ns .list ≡ nodesAt s (ns .count) = reads-value en qn .1 in
+                  let en : ns .list ≡ nodesAt (jobVersion s) s (ns .count) = reads-value nodes-read qn .1 in
                   let eq = task-count in
-                  let et : ts .list ≡ tasksAt s (taskSection (nodeCount s)) (nodeCount s) (ts .count) = reads-value tasks-read qt .1 in
+                  let et : ts .list ≡ tasksAt (jobVersion s) s (taskSection (jobVersion s) (nodeCount s)) (nodeCount s) (ts .count) =
+                  reads-value tasks-read qt .1 in
                   let em : ls .count ≡ linkCount s = reads-value links-read ql .0 in
-                  let el : ls .list ≡ linksAt s (linkSection (nodeCount s) (taskCount s)) (ls .count) = reads-value links-read ql .1 in
+                  let el : ls .list ≡ linksAt s (linkSection (jobVersion s) (nodeCount s) (taskCount s)) (ls .count) = reads-value links-read ql .1 in
                   cc
 
-              pub whole-job : length s ≤ jobLength (ns .count) (ts .count) (ls .count)
+              pub whole-job : length s ≤ ts .end + 4 + 12 * ls .count
                   → _≡_ {A = JobRead} (record {
                     answer = Done;
                     job = record {

@@ -2,35 +2,77 @@
 use Prim.Native.Nat.{ℕ, _+_, _*_, _≤_}
 use native.Mathlib.Nat.{mul-le-mul-right}
 use native.Mathlib.Omega.{arith}
-use mathlib.Core.Path.{_≡_}
+use mathlib.Core.Path.{_≡_, refl}
 use mathlib.Core.List.{List}
 use mathlib.Core.Option.{none}
 use lib.ListN.{length}
 use Rattle.reader.specs.declared.job.Job.{Job}
-use Rattle.reader.specs.Limits.{maxNodes, maxTasks, maxLinks, maxJobLength, maxPlanLength}
+use Rattle.reader.specs.Limits.{newestVersion, maxNodes, maxTasks, maxLinks, maxJobLength, maxPlanLength}
 use Rattle.reader.specs.Entries.{tasks}
 use Rattle.reader.specs.Sound.{Sound}
-use Rattle.reader.specs.JobFile.{linkSection, jobLength, nodeCount, taskCount, linkCount, jobFault}
+use Rattle.reader.specs.JobFile.{jobVersion, nodeWidth, taskWidth, taskSection, linkSection, jobLength, longestJob, nodeCount, taskCount, linkCount}
+use Rattle.reader.specs.JobFile.{jobFault}
 use Rattle.reader.specs.PlanFile.{planLength, planFault}
+use Rattle.reader.specs.Fields.{nodeFields, taskFields, reaches, widthIf, width}
+use Rattle.reader.proofs.VersionLaws.{width-most}
 use Rattle.reader.proofs.Accepted.{GoodJob, GoodPlan, job-good, plan-good}
 
-pub link-section-most : (p n : ℕ) → p ≤ maxNodes → n ≤ maxTasks → linkSection p n ≤ 4_428
-link-section-most p n hp hn = omega (arith, mul-le-mul-right (4 + 4 * p) hn)
+-- 'the longest job has 10,576 bytes', and 10,832 in version 2, the newest
+pub longest-is : (longestJob 1 ≡ 10_576) × (longestJob newestVersion ≡ maxJobLength)
+unfolding nodeWidth taskWidth width nodeFields taskFields reaches widthIf
+longest-is = (refl, refl)
 
-pub job-length-most : (p n m : ℕ) → p ≤ maxNodes → n ≤ maxTasks → m ≤ maxLinks → jobLength p n m ≤ maxJobLength
-job-length-most p n m hp hn hm = omega (arith, link-section-most p n hp hn)
+-- entries have few fields
+pub fields-wide : (length nodeFields ≤ 8) × (length taskFields ≤ 8)
+unfolding nodeFields taskFields
+fields-wide = (omega arith, omega arith)
 
-pub job-length : (s : List ℕ) → GoodJob s → jobLength (nodeCount s) (taskCount s) (linkCount s) ≡ length s
+longest-most : (v : ℕ) → longestJob v ≤ maxJobLength
+unfolding nodeWidth taskWidth nodeFields taskFields
+longest-most v = omega (arith, width-most v nodeFields, width-most v taskFields)
+
+pub node-width-most : (v : ℕ) → nodeWidth v ≤ 32
+unfolding nodeWidth
+node-width-most v = omega (arith, width-most v nodeFields, fields-wide .0)
+
+pub task-width-most : (v p : ℕ) → p ≤ maxNodes → taskWidth v p ≤ 96
+unfolding taskWidth
+task-width-most v p h = omega (arith, width-most v taskFields, fields-wide .1)
+
+task-width-rise : (v p q : ℕ) → p ≤ q → taskWidth v p ≤ taskWidth v q
+unfolding taskWidth
+task-width-rise v p q h = omega arith
+
+module _ (v p : ℕ) (hp : p ≤ maxNodes) where
+  pub task-section-most : taskSection v p ≤ 1_024
+  task-section-most = omega (arith, mul-le-mul-right (nodeWidth v) hp, node-width-most v)
+
+  module _ (n : ℕ) (hn : n ≤ maxTasks) where
+    pub link-section-most : linkSection v p n ≤ 8_192
+    link-section-most = omega (arith, mul-le-mul-right (taskWidth v p) hn, task-width-most v p hp, task-section-most)
+
+    pub length-longest : (m : ℕ) → m ≤ maxLinks → jobLength v p n m ≤ longestJob v
+    length-longest m hm =
+        omega (arith, mul-le-mul-right (nodeWidth v) hp, mul-le-mul-right (taskWidth v p) hn, task-width-rise v p maxNodes hp)
+
+    pub job-length-most : (m : ℕ) → m ≤ maxLinks → jobLength v p n m ≤ maxJobLength
+    job-length-most m hm = omega (arith, length-longest m hm, longest-most v)
+
+pub job-length : (s : List ℕ) → GoodJob s → jobLength (jobVersion s) (nodeCount s) (taskCount s) (linkCount s) ≡ length s
 job-length s g = omega (arith, g .links .room, g .most)
 
 pub plan-length : (s : List ℕ) (job : Job) → GoodPlan s job → planLength (tasks job) ≡ length s
 plan-length s job g = omega (arith, g .room, g .most)
 
--- 'the longest job has 10,576 bytes'
-pub job-most : (s : List ℕ) → jobFault s ≡ none → length s ≤ maxJobLength
-job-most s e =
+pub job-longest : (s : List ℕ) → jobFault s ≡ none → length s ≤ longestJob (jobVersion s)
+job-longest s e =
     let g = job-good s e in
-    omega (arith, job-length s g, job-length-most (nodeCount s) (taskCount s) (linkCount s) (g .nodes .count .most) (g .tasks .count .most) (g .links .count .most))
+    let most = length-longest (jobVersion s) (nodeCount s) (g .nodes .count .most) (taskCount s) (g .tasks .count .most) (linkCount s) (g .links .count .most) in
+    omega (arith, job-length s g, most)
+
+-- the longest job of any version
+pub job-most : (s : List ℕ) → jobFault s ≡ none → length s ≤ maxJobLength
+job-most s e = omega (arith, job-longest s e, longest-most (jobVersion s))
 
 pub plan-most : (s : List ℕ) (job : Job) → Sound job → planFault s job ≡ none → length s ≤ maxPlanLength
 plan-most s job h e = omega (arith, plan-length s job (plan-good s job e), h .tasks-most)

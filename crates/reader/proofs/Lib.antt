@@ -4,10 +4,13 @@ pub mod FirstFails
 pub mod FillLaws
 pub mod RefusalLaws
 pub mod FieldLaws
+pub mod VersionLaws
 pub mod ByteLaws
 pub mod NumberLaws
 pub mod Chain
 pub mod ReadLoop
+pub mod NodeLaws
+pub mod TaskLaws
 pub mod LinkLaws
 pub mod PlaceLaws
 pub mod Accepted
@@ -15,6 +18,7 @@ pub mod Faultless
 pub mod JobLaws
 pub mod PlanLaws
 pub mod LengthLaws
+pub mod Compatible
 pub mod EntryLaws
 pub mod Promise
 pub mod PackingLaws

@@ -1,41 +1,68 @@
 -- What reading promises: the job in a file without fault is sound, and so is a plan after its job.
 use Prim.Native.Nat.{ℕ, suc, _+_, _*_, _≤_, _<_}
 use native.Mathlib.Omega.{arith}
-use mathlib.Core.Path.{_≡_, sym, subst}
+use mathlib.Core.Path.{_≡_, refl, sym, subst}
 use mathlib.Core.Bool.{true}
 use mathlib.Core.List.{List}
 use mathlib.Core.Option.{Option, none}
 use lib.ListN.{getD}
+use borrow.Author.Tests.{lt-leb}
+use Rattle.reader.specs.declared.job.Node.{Node}
 use Rattle.reader.specs.declared.job.Task.{Task}
 use Rattle.reader.specs.declared.job.Link.{Link}
 use Rattle.reader.specs.declared.job.Job.{Job}
 use Rattle.reader.specs.declared.plan.Place.{Place}
 use Rattle.reader.specs.declared.refusal.Refusal.{Refusal}
 use Rattle.reader.specs.declared.refusal.Answer.the-variants.{Done}
-use Rattle.reader.specs.Limits.{minTasks, maxNodes, minDeadline, maxTime, maxStart}
-use Rattle.reader.specs.Entries.{nodes, tasks, task, link, place, emptyJob, emptyPlan}
+use Rattle.reader.specs.Limits.{readySince, minTasks, maxNodes, maxDetect, minDeadline, maxTime, maxStart}
+use Rattle.reader.specs.Entries.{nodes, tasks, node, task, link, place, emptyJob, emptyPlan}
 use Rattle.reader.specs.Sound.{below, Sound, PlanSound}
-use Rattle.reader.specs.JobFile.{nodeCount, taskCount, linkCount, taskAt, linkAt, linkBefore, jobFault, jobAt, unlessFault, readJob, JobDone}
+use Rattle.reader.specs.JobFile.{jobVersion, nodeCount, taskCount, linkCount, nodeAt, taskAt, linkAt, linkBefore, jobFault, jobAt, unlessFault}
+use Rattle.reader.specs.JobFile.{readJob, JobDone}
+use Rattle.reader.specs.Fields.{nodeFields, taskFields, nodeValues, taskValues, reaches, width, fieldsAt}
 use Rattle.reader.specs.PlanFile.{placeAt, planFault, planAt, readPlan, PlanDone}
 use Rattle.reader.proofs.RefusalLaws.{answered-done}
+use Rattle.reader.proofs.VersionLaws.{GoodFields, AllWithin, fields-within, within-most}
 use Rattle.reader.proofs.Accepted.{GoodTask, GoodLink, GoodJob, GoodPlace, GoodPlan, job-good, plan-good}
-use Rattle.reader.proofs.EntryLaws.{detect-at, run-at, task-at, link-at, place-at}
+use Rattle.reader.proofs.EntryLaws.{node-at, run-at, task-at, link-at, place-at}
 
 pub none-value : {A : Type 0} (o : Option Refusal) (a b : A) → o ≡ none → unlessFault o a b ≡ a
 none-value o a b e = rw e
 
--- what is promised of one task, of one link between n tasks, and of one place
-pub record SoundTask (p : ℕ) (t : Task) : Type 0 where
-  pub least : minDeadline ≤ t .deadline
-  pub most : t .deadline ≤ maxTime
+-- what is promised of one node in version v, of one task, of one link between n tasks, and of one place
+node-sound : (v : ℕ) (s : List ℕ) (at : ℕ) → GoodFields v s at nodeFields → AllWithin v nodeFields (nodeValues (nodeAt v s at))
+unfolding nodeAt fieldsAt nodeFields
+node-sound v s at = fields-within v s at nodeFields
+
+pub record SoundTask (v p : ℕ) (t : Task) : Type 0 where
+  pub fields : AllWithin v taskFields (taskValues t)
   pub run : (i : ℕ) → i < p → getD (t .run) i 0 ≤ maxTime
 
-task-sound : (s : List ℕ) (at p : ℕ) → p ≤ maxNodes → GoodTask s at p → SoundTask p (taskAt s at p)
-unfolding taskAt
-task-sound s at p m g = record {
-  least = g .deadline .least;
-  most = g .deadline .most;
-  run = λ i l. omega (arith, run-at s (at + 4) p i m l, g .run i l .most);
+task-sound : (v : ℕ) (s : List ℕ) (at p : ℕ) → p ≤ maxNodes → GoodTask v s at p → SoundTask v p (taskAt v s at p)
+unfolding taskAt fieldsAt taskFields
+task-sound v s at p m g = record {
+  fields = fields-within v s at taskFields (g .fields);
+  run = λ i l. omega (arith, run-at s (at + width v taskFields) p i m l, g .run i l .most);
+}
+
+-- the limits of the fields, each by its name
+node-limits : (v : ℕ) (x : Node) → AllWithin v nodeFields (nodeValues x) → x .detect ≤ maxDetect
+unfolding AllWithin nodeFields reaches
+node-limits v x w = w .0 .most refl
+
+record TaskLimits (v : ℕ) (t : Task) : Type 0 where
+  pub ready : t .ready ≤ maxTime
+  pub ready-lacks : v < readySince → t .ready ≡ 0
+  pub least : minDeadline ≤ t .deadline
+  pub most : t .deadline ≤ maxTime
+
+task-limits : (v : ℕ) (t : Task) → AllWithin v taskFields (taskValues t) → TaskLimits v t
+unfolding AllWithin taskFields reaches
+task-limits v t w = record {
+  ready = within-most v _ _ (w .0) (omega arith);
+  ready-lacks = λ h. w .0 .lacks (lt-leb readySince v h);
+  least = w .1 .0 .least refl;
+  most = w .1 .0 .most refl;
 }
 
 pub record SoundLink (n : ℕ) (l : Link) : Type 0 where
@@ -67,10 +94,15 @@ place-sound s at p run m g = record {
 }
 
 module _ (s : List ℕ) (g : GoodJob s) where
-  tasks-sound : (j : ℕ) → j < taskCount s → SoundTask (nodeCount s) (task (jobAt s) j)
+  detects-most : (i : ℕ) → i < nodeCount s → node (jobAt s) i .detect ≤ maxDetect
+  detects-most i p =
+      subst (λ x. x .detect ≤ maxDetect) (sym (node-at s i (g .nodes .count .most) p))
+      (node-limits (jobVersion s) _ (node-sound (jobVersion s) s _ (g .nodes .entry i p)))
+
+  tasks-sound : (j : ℕ) → j < taskCount s → SoundTask (jobVersion s) (nodeCount s) (task (jobAt s) j)
   tasks-sound j p =
-      subst (λ t. SoundTask (nodeCount s) t) (sym (task-at s j (g .tasks .count .most) p))
-      (task-sound s _ (nodeCount s) (g .nodes .count .most) (g .tasks .task j p))
+      subst (λ t. SoundTask (jobVersion s) (nodeCount s) t) (sym (task-at s j (g .tasks .count .most) p))
+      (task-sound (jobVersion s) s _ (nodeCount s) (g .nodes .count .most) (g .tasks .task j p))
 
   links-sound : (k : ℕ) → k < linkCount s → SoundLink (taskCount s) (link (jobAt s) k)
   links-sound k p =
@@ -87,15 +119,20 @@ pub job-sound : (s : List ℕ) → jobFault s ≡ none → Sound (jobAt s)
 unfolding jobAt
 job-sound s e =
     let g = job-good s e in
+    let limits : ((j : ℕ) → j < taskCount s → TaskLimits (jobVersion s) (task (jobAt s) j)) =
+    λ j p. task-limits (jobVersion s) (task (jobAt s) j) (tasks-sound s g j p .fields) in
     record {
-      version = omega (arith, g .version);
+      version-least = g .version .least;
+      version-most = g .version .most;
       nodes-least = g .nodes .count .least;
       nodes-most = g .nodes .count .most;
-      detect-most = λ i p. omega (arith, detect-at s i (g .nodes .count .most) p, g .nodes .detect i p .most);
+      detect-most = detects-most s g;
       tasks-least = g .tasks .count .least;
       tasks-most = g .tasks .count .most;
-      deadline-least = λ j p. tasks-sound s g j p .least;
-      deadline-most = λ j p. tasks-sound s g j p .most;
+      ready-most = λ j p. limits j p .ready;
+      ready-lacks = λ j p. limits j p .ready-lacks;
+      deadline-least = λ j p. limits j p .least;
+      deadline-most = λ j p. limits j p .most;
       run-most = λ j i p l. tasks-sound s g j p .run i l;
       links-most = g .links .count .most;
       rise = λ k p. links-sound s g k p .rise;

@@ -1,5 +1,5 @@
 -- The law of every loop that reads a section: its count, then its entries, which are not at fault and stand in the list.
-use Prim.Native.Nat.{ℕ, _+_, _≤_, _<_}
+use Prim.Native.Nat.{ℕ, _+_, _*_, _≤_, _<_}
 use mathlib.Core.Path.{_≡_, refl, sym, ap, ap₂, _∙_}
 use mathlib.Core.List.{List}
 use mathlib.Core.Option.{Option, none, some}
@@ -12,7 +12,7 @@ use Rattle.reader.specs.First.{_or-else_, first, fill}
 use Rattle.reader.specs.Reads.{Reads}
 use Rattle.reader.proofs.FirstLaws.{first-start, first-more, first-found}
 use Rattle.reader.proofs.FillLaws.{fill-none, fill-more}
-use Rattle.reader.proofs.Chain.{pass, stopped, finished}
+use Rattle.reader.proofs.Chain.{pass, stopped, finished, reads-none, reads-some, reads-value, valued}
 
 -- the count's fault, the count, each entry's fault and value, and the list that the loop starts with
 module _ {A : Type 0} (counted : Option Refusal) (n : ℕ) (fault : ℕ → Option Refusal) (value : ℕ → A) (empty : List A) where
@@ -61,3 +61,40 @@ module _ {A : Type 0} (counted : Option Refusal) (n : ℕ) (fault : ℕ → Opti
 
     pub read-done : k ≤ i → Reads (counted or-else first n fault) Done ((k ≡ n) × (list ≡ fill k value empty))
     read-done = read-end refl
+
+-- rows of width w from an offset on, of which each tells the offset behind it
+module _ {A : Type 0} (counted : Option Refusal) (n : ℕ) (fault : ℕ → Option Refusal) (value : ℕ → A) (empty : List A) (from w : ℕ) where
+  abbrev rowFault : ℕ → Option Refusal
+  rowFault i = fault (from + i * w)
+
+  abbrev rowValue : ℕ → A
+  rowValue i = value (from + i * w)
+
+  -- the first i of k rows are read, up to an offset
+  pub record RowsTo (k i at : ℕ) (list : List A) : Type 0 where
+    pub read : ReadTo counted n rowFault rowValue empty k i list
+    pub here : at ≡ from + i * w
+
+  pub rows-begin : (k : ℕ) (list : List A) → counted ≡ none → k ≡ n → list ≡ empty → RowsTo k 0 from list
+  rows-begin k list fine is e = record { read = read-begin _ _ _ _ _ k list fine is e; here = omega arith }
+
+  module _ (k i at : ℕ) (list : List A) (inv : RowsTo k i at list) where
+    pub rows-end : {a : Answer} → a ≡ Done → k ≤ i
+        → Reads (counted or-else first n rowFault) a ((k ≡ n) × (list ≡ fill k rowValue empty) × (at ≡ from + k * w))
+    rows-end told all =
+        let e : i ≡ k = omega (arith, inv .read .most) in
+        valued (λ v. (v .0, v .1, inv .here ∙ ap (λ x. from + x * w) e)) (read-end _ _ _ _ _ k i list (inv .read) told all)
+
+    -- the next row
+    module _ {a : Answer} {x : A} {end : ℕ} (row : Reads (fault at) a ((x ≡ value at) × (end ≡ at + w))) (below : i < k) where
+      pub rows-more : a ≡ Done → RowsTo k (i + 1) end (set list i x)
+      rows-more told =
+          let v = reads-value row told in
+          let fine = sym (ap fault (inv .here)) ∙ reads-none row told in
+          record {
+            read = read-more _ _ _ _ _ k i list (inv .read) x below fine (v .0 ∙ ap value (inv .here));
+            here = omega (arith, inv .here, v .1);
+          }
+
+      pub rows-stop : {X : Type 0} {b : Answer} {r : Refusal} → a ≡ Refused r → b ≡ Refused r → Reads (counted or-else first n rowFault) b X
+      rows-stop {X} {b} {r} bad told = read-stop _ _ _ _ _ k i list (inv .read) below (sym (ap fault (inv .here)) ∙ reads-some row bad) told

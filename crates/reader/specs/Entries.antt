@@ -25,7 +25,7 @@ abbrev pub noNode : Node
 noNode = record { detect = 0 }
 
 abbrev pub noTask : Task
-noTask = record { deadline = 0; run = [] }
+noTask = record { ready = 0; deadline = 0; run = [] }
 
 abbrev pub noLink : Link
 noLink = record { from = 0; to = 0; delay = 0 }
@@ -40,9 +40,12 @@ node job n = getD (job .nodes) n noNode
 abbrev pub detect : Job → ℕ → ℕ
 detect job n = node job n .detect
 
--- task j, its deadline, and its run time on node n
+-- task j, its ready time, its deadline, and its run time on node n
 abbrev pub task : Job → ℕ → Task
 task job j = getD (job .tasks) j noTask
+
+abbrev pub ready : Job → ℕ → ℕ
+ready job j = task job j .ready
 
 abbrev pub deadline : Job → ℕ → ℕ
 deadline job j = task job j .deadline
@@ -60,7 +63,7 @@ place plan j = getD (plan .places) j noPlace
 
 -- the job and the plan without entries
 abbrev pub blankTask : Task
-blankTask = record { deadline = 0; run = replicate maxNodes 0 }
+blankTask = record { ready = 0; deadline = 0; run = replicate maxNodes 0 }
 
 unfoldable pub emptyJob : Job
 emptyJob = record {

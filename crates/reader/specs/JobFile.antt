@@ -1,9 +1,10 @@
 -- A job file: its first fault in file order, and the job, each number where it stands.
 use Prim.Native.Nat.{ℕ, zero, suc, _+_, _-_, _*_}
+use mathlib.Core.Bool.{Bool}
 use mathlib.Core.List.{List}
 use mathlib.Core.Option.{Option, none, some}
 use mathlib.Core.Path.{_≡_}
-use lib.Dec.{leb}
+use lib.Dec.{leb, ltb}
 use lib.ListN.{length, replicate}
 use Rattle.reader.specs.declared.job.Node.{Node}
 use Rattle.reader.specs.declared.job.Task.{Task}
@@ -12,32 +13,52 @@ use Rattle.reader.specs.declared.job.Job.{Job}
 use Rattle.reader.specs.declared.job_file.JobRead.{JobRead}
 use Rattle.reader.specs.declared.refusal.Refusal.{Refusal}
 use Rattle.reader.specs.declared.refusal.Refusal.the-variants.{LinkOrder, Tail}
+use Rattle.reader.specs.Tests.{_and_}
 use Rattle.reader.specs.First.{_or-else_, first, unless, fill}
-use Rattle.reader.specs.Limits.{minNodes, maxNodes, maxDetect, minTasks, maxTasks, minDeadline, maxLinks, maxTime}
+use Rattle.reader.specs.Limits.{newestVersion, minNodes, maxNodes, minTasks, maxTasks, maxLinks, maxTime}
 use Rattle.reader.specs.Entries.{noNode, blankTask, noLink, emptyJob}
 use Rattle.reader.specs.Number.{numberAt, versionFault, countFault, valueFault}
+use Rattle.reader.specs.Fields.{nodeFields, taskFields, nodeFrom, taskFrom, width, fieldsFault, fieldsAt}
 use Rattle.reader.specs.Refusals.{answered}
 use Rattle.reader.specs.Sound.{below, Sound}
+
+-- the version; and the bytes of an entry in version v, of a node and of a task with p run times
+abbrev pub jobVersion : List ℕ → ℕ
+jobVersion s = numberAt s 0
+
+unfoldable pub nodeWidth : ℕ → ℕ
+nodeWidth v = width v nodeFields
+
+unfoldable pub taskWidth : ℕ → ℕ → ℕ
+taskWidth v p = width v taskFields + 4 * p
 
 -- where the sections begin, each with its count: behind the version, p nodes, n tasks, m links
 abbrev pub nodeSection : ℕ
 nodeSection = 4
 
-abbrev pub taskSection : ℕ → ℕ
-taskSection p = 8 + 4 * p
+abbrev pub taskSection : ℕ → ℕ → ℕ
+taskSection v p = 8 + p * nodeWidth v
 
-abbrev pub linkSection : ℕ → ℕ → ℕ
-linkSection p n = taskSection p + 4 + n * (4 + 4 * p)
+abbrev pub linkSection : ℕ → ℕ → ℕ → ℕ
+linkSection v p n = taskSection v p + 4 + n * taskWidth v p
 
-abbrev pub jobLength : ℕ → ℕ → ℕ → ℕ
-jobLength p n m = linkSection p n + 4 + 12 * m
+abbrev pub jobLength : ℕ → ℕ → ℕ → ℕ → ℕ
+jobLength v p n m = linkSection v p n + 4 + 12 * m
 
--- 'node count P (2 to 16), then per node its detect time (0 to 1,000)'
-unfoldable pub nodesFault : List ℕ → Option Refusal
-nodesFault s = countFault s nodeSection minNodes maxNodes or-else first (numberAt s nodeSection) (λ i. valueFault s (8 + 4 * i) 0 maxDetect)
+-- the bytes of the longest job of version v
+abbrev pub longestJob : ℕ → ℕ
+longestJob v = jobLength v maxNodes maxTasks maxLinks
 
-unfoldable pub nodesAt : List ℕ → ℕ → List Node
-nodesAt s p = fill p (λ i. record { detect = numberAt s (8 + 4 * i) }) (replicate maxNodes noNode)
+-- 'node count P (2 to 16), then per node ..'
+unfoldable pub nodesFault : ℕ → List ℕ → Option Refusal
+nodesFault v s =
+    countFault s nodeSection minNodes maxNodes or-else first (numberAt s nodeSection) (λ i. fieldsFault v s (8 + i * nodeWidth v) nodeFields)
+
+unfoldable pub nodeAt : ℕ → List ℕ → ℕ → Node
+nodeAt v s at = nodeFrom (fieldsAt v s at nodeFields)
+
+unfoldable pub nodesAt : ℕ → List ℕ → ℕ → List Node
+nodesAt v s p = fill p (λ i. nodeAt v s (8 + i * nodeWidth v)) (replicate maxNodes noNode)
 
 -- 'P run times, one for each node (0 to 1,000,000)', from an offset
 unfoldable pub runFault : List ℕ → ℕ → ℕ → Option Refusal
@@ -46,19 +67,20 @@ runFault s at p = first p (λ i. valueFault s (at + 4 * i) 0 maxTime)
 unfoldable pub runAt : List ℕ → ℕ → ℕ → List ℕ
 runAt s at p = fill p (λ i. numberAt s (at + 4 * i)) (replicate maxNodes 0)
 
--- 'per task its deadline (1 to 1,000,000) and P run times'
-unfoldable pub taskFault : List ℕ → ℕ → ℕ → Option Refusal
-taskFault s at p = valueFault s at minDeadline maxTime or-else runFault s (at + 4) p
+-- a task of version v: its fields, and P run times
+unfoldable pub taskFault : ℕ → List ℕ → ℕ → ℕ → Option Refusal
+taskFault v s at p = fieldsFault v s at taskFields or-else runFault s (at + width v taskFields) p
 
-unfoldable pub taskAt : List ℕ → ℕ → ℕ → Task
-taskAt s at p = record { deadline = numberAt s at; run = runAt s (at + 4) p }
+unfoldable pub taskAt : ℕ → List ℕ → ℕ → ℕ → Task
+taskAt v s at p = taskFrom (fieldsAt v s at taskFields) (runAt s (at + width v taskFields) p)
 
 -- 'task count N (1 to 64), then per task ..': the section at an offset
-unfoldable pub tasksFault : List ℕ → ℕ → ℕ → Option Refusal
-tasksFault s at p = countFault s at minTasks maxTasks or-else first (numberAt s at) (λ i. taskFault s (at + 4 + i * (4 + 4 * p)) p)
+unfoldable pub tasksFault : ℕ → List ℕ → ℕ → ℕ → Option Refusal
+tasksFault v s at p =
+    countFault s at minTasks maxTasks or-else first (numberAt s at) (λ i. taskFault v s (at + 4 + i * taskWidth v p) p)
 
-unfoldable pub tasksAt : List ℕ → ℕ → ℕ → ℕ → List Task
-tasksAt s at p n = fill n (λ i. taskAt s (at + 4 + i * (4 + 4 * p)) p) (replicate maxTasks blankTask)
+unfoldable pub tasksAt : ℕ → List ℕ → ℕ → ℕ → ℕ → List Task
+tasksAt v s at p n = fill n (λ i. taskAt v s (at + 4 + i * taskWidth v p) p) (replicate maxTasks blankTask)
 
 -- 'per link from, to, delay (0 to 1,000,000). .. From and to are below N; a to not above its from is refused 4 too, at to'; then 5
 unfoldable pub linkAt : List ℕ → ℕ → Link
@@ -93,29 +115,35 @@ abbrev pub nodeCount : List ℕ → ℕ
 nodeCount s = numberAt s nodeSection
 
 abbrev pub taskCount : List ℕ → ℕ
-taskCount s = numberAt s (taskSection (nodeCount s))
+taskCount s = numberAt s (taskSection (jobVersion s) (nodeCount s))
 
 abbrev pub linkCount : List ℕ → ℕ
-linkCount s = numberAt s (linkSection (nodeCount s) (taskCount s))
+linkCount s = numberAt s (linkSection (jobVersion s) (nodeCount s) (taskCount s))
 
--- 'A file is read number by number and the first fault is given'
+-- the faults behind the version
+abbrev pub sectionsFault : List ℕ → Option Refusal
+sectionsFault s =
+    nodesFault (jobVersion s) s
+    or-else tasksFault (jobVersion s) s (taskSection (jobVersion s) (nodeCount s)) (nodeCount s)
+    or-else linksFault s (linkSection (jobVersion s) (nodeCount s) (taskCount s)) (taskCount s)
+    or-else tailFault s (jobLength (jobVersion s) (nodeCount s) (taskCount s) (linkCount s))
+
+-- 'A file is read number by number and the first fault is given': by a reader that knows the versions up to a newest one
+abbrev pub jobFaultUpTo : ℕ → List ℕ → Option Refusal
+jobFaultUpTo newest s = versionFault newest s or-else sectionsFault s
+
 unfoldable pub jobFault : List ℕ → Option Refusal
-jobFault s =
-    versionFault s
-    or-else nodesFault s
-    or-else tasksFault s (taskSection (nodeCount s)) (nodeCount s)
-    or-else linksFault s (linkSection (nodeCount s) (taskCount s)) (taskCount s)
-    or-else tailFault s (jobLength (nodeCount s) (taskCount s) (linkCount s))
+jobFault s = jobFaultUpTo newestVersion s
 
 unfoldable pub jobAt : List ℕ → Job
 jobAt s = record {
-  version = numberAt s 0;
+  version = jobVersion s;
   «node_count» = nodeCount s;
-  nodes = nodesAt s (nodeCount s);
+  nodes = nodesAt (jobVersion s) s (nodeCount s);
   «task_count» = taskCount s;
-  tasks = tasksAt s (taskSection (nodeCount s)) (nodeCount s) (taskCount s);
+  tasks = tasksAt (jobVersion s) s (taskSection (jobVersion s) (nodeCount s)) (nodeCount s) (taskCount s);
   «link_count» = linkCount s;
-  links = linksAt s (linkSection (nodeCount s) (taskCount s)) (linkCount s);
+  links = linksAt s (linkSection (jobVersion s) (nodeCount s) (taskCount s)) (linkCount s);
 }
 
 -- a where there is no fault, else b
@@ -124,8 +152,18 @@ unlessFault none a b = a
 unlessFault (some r) a b = b
 
 -- what reading a job file gives: the answer, and the job, which is empty on a refusal
+abbrev pub jobRead : Option Refusal → Job → JobRead
+jobRead fault job = record { answer = answered fault; job = unlessFault fault job emptyJob }
+
+abbrev pub readJobUpTo : ℕ → List ℕ → JobRead
+readJobUpTo newest s = jobRead (jobFaultUpTo newest s) (jobAt s)
+
 unfoldable pub readJob : List ℕ → JobRead
-readJob s = record { answer = answered (jobFault s); job = unlessFault (jobFault s) (jobAt s) emptyJob }
+readJob s = jobRead (jobFault s) (jobAt s)
+
+-- a file of a version that such a reader does not know yet
+unfoldable pub isLater : ℕ → List ℕ → Bool
+isLater newest s = leb 4 (length s) and ltb newest (jobVersion s)
 
 -- of a job file that is read: no fault, the job in it, and what reading promises
 pub record JobDone (s : List ℕ) : Type 0 where

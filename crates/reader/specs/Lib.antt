@@ -5,6 +5,7 @@ pub mod Entries
 pub mod Sound
 pub mod Refusals
 pub mod Number
+pub mod Fields
 pub mod Reads
 pub mod JobFile
 pub mod PlanFile

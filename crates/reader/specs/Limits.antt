@@ -1,10 +1,21 @@
--- The limits of document 01, section 'Files'. The constants of `Job` and `Plan` have these values (`Limits::all`).
+-- The limits of document 01, section 'Files', and of document 02. The constants of `Job` and `Plan` have these values (`Limits::all`).
 use Prim.Native.Nat.{ℕ}
 use Rattle.reader.specs.declared.limits.Limits.{Limits}
 
--- 'version (1)'
-abbrev pub fileVersion : ℕ
-fileVersion = 1
+-- job 'version (1)', and 'job version 2' of request (ii)
+abbrev pub firstVersion : ℕ
+firstVersion = 1
+
+abbrev pub newestVersion : ℕ
+newestVersion = 2
+
+-- the first version with a ready time
+abbrev pub readySince : ℕ
+readySince = 2
+
+-- plan 'version (1)'
+abbrev pub planVersion : ℕ
+planVersion = 1
 
 -- 'node count P (2 to 16)'
 abbrev pub minNodes : ℕ
@@ -32,7 +43,7 @@ minDeadline = 1
 abbrev pub maxLinks : ℕ
 maxLinks = 512
 
--- deadlines, run times and delays: '0 to 1,000,000'
+-- ready times, deadlines, run times and delays: '0 to 1,000,000'
 abbrev pub maxTime : ℕ
 maxTime = 1_000_000
 
@@ -40,9 +51,9 @@ maxTime = 1_000_000
 abbrev pub maxStart : ℕ
 maxStart = 1_000_000
 
--- 'the longest job has 10,576 bytes'
+-- 'the longest job has 10,576 bytes' in version 1, and 10,832 in version 2 (`longestJob`)
 abbrev pub maxJobLength : ℕ
-maxJobLength = 10_576
+maxJobLength = 10_832
 
 -- 'the file has 8 + 16 × N bytes', N at most 64
 abbrev pub maxPlanLength : ℕ
@@ -51,7 +62,9 @@ maxPlanLength = 1_032
 -- all of them, as the constants of the code give them
 abbrev pub limits : Limits
 limits = record {
-  «job_version» = fileVersion;
+  «first_version» = firstVersion;
+  «newest_version» = newestVersion;
+  «ready_since» = readySince;
   «min_nodes» = minNodes;
   «max_nodes» = maxNodes;
   «max_detect» = maxDetect;
@@ -61,7 +74,7 @@ limits = record {
   «max_links» = maxLinks;
   «max_time» = maxTime;
   «max_job_length» = maxJobLength;
-  «plan_version» = fileVersion;
+  «plan_version» = planVersion;
   «max_start» = maxStart;
   «max_plan_length» = maxPlanLength;
 }

@@ -10,7 +10,7 @@ use Rattle.reader.specs.declared.number.Number.{Number}
 use Rattle.reader.specs.declared.number.Number.the-variants.{Is, Fault}
 use Rattle.reader.specs.Tests.{_and_}
 use Rattle.reader.specs.First.{_or-else_, unless}
-use Rattle.reader.specs.Limits.{fileVersion}
+use Rattle.reader.specs.Limits.{firstVersion}
 
 -- the number whose first byte stands at an offset
 unfoldable pub numberAt : List ℕ → ℕ → ℕ
@@ -33,9 +33,9 @@ fieldFault s at low high r =
     unless (leb (at + 4) (length s)) (Short at)
     or-else unless (leb low (numberAt s at) and leb (numberAt s at) high) r
 
--- 2, 'not 1'; 3, 'a section count outside its limits'; 4, 'any other number outside its limits'
-abbrev pub versionFault : List ℕ → Option Refusal
-versionFault s = fieldFault s 0 fileVersion fileVersion (Version 0)
+-- 2, 'not 1', and since request (ii) not one up to the newest known; 3, 'a section count outside its limits'; 4, 'any other number outside its limits'
+abbrev pub versionFault : ℕ → List ℕ → Option Refusal
+versionFault newest s = fieldFault s 0 firstVersion newest (Version 0)
 
 abbrev pub countFault : List ℕ → ℕ → ℕ → ℕ → Option Refusal
 countFault s at low high = fieldFault s at low high (Count at)

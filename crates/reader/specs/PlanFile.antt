@@ -12,7 +12,7 @@ use Rattle.reader.specs.declared.plan_file.PlanRead.{PlanRead}
 use Rattle.reader.specs.declared.refusal.Refusal.{Refusal}
 use Rattle.reader.specs.declared.refusal.Refusal.the-variants.{Unable}
 use Rattle.reader.specs.First.{_or-else_, first, unless, fill}
-use Rattle.reader.specs.Limits.{maxTasks, maxStart}
+use Rattle.reader.specs.Limits.{planVersion, maxTasks, maxStart}
 use Rattle.reader.specs.Entries.{nodes, tasks, task, noPlace, emptyPlan}
 use Rattle.reader.specs.Number.{numberAt, versionFault, countFault, valueFault}
 use Rattle.reader.specs.Refusals.{answered}
@@ -53,7 +53,7 @@ planLength n = 8 + 16 * n
 -- 'version (1); task count, equal to N; per task ..'
 unfoldable pub planFault : List ℕ → Job → Option Refusal
 planFault s job =
-    versionFault s
+    versionFault planVersion s
     or-else countFault s 4 (tasks job) (tasks job)
     or-else placesFault s job (tasks job)
     or-else tailFault s (planLength (tasks job))

@@ -1,11 +1,11 @@
--- The table of document 01: the number and both places of each refusal, and the 8-byte result that holds them.
+-- The table of document 01, and what document 02 adds to it: the number and both places of each refusal, and the 8-byte result that holds them.
 use Prim.Native.Nat.{ℕ, _+_, _*_, _%_, _^_, _<_}
 use mathlib.Core.Option.{Option, none, some}
 use mathlib.Core.Path.{_≡_}
 use Rattle.reader.specs.declared.refusal.Refusal.{Refusal}
 use Rattle.reader.specs.declared.refusal.Refusal.the-variants.{Short, Version, Count, Value, LinkOrder, Tail, Unable, SameNode, Early, Late}
 use Rattle.reader.specs.declared.refusal.Refusal.the-variants.{PrimaryUnfed, BackupUnfed, CommonLoss, Overlap}
-use Rattle.reader.specs.declared.refusal.Refusal.the-variants.{NoPrimary, NoBackup, ShortBuffer, NoSuchNode}
+use Rattle.reader.specs.declared.refusal.Refusal.the-variants.{NoPrimary, NoBackup, ShortBuffer, NoSuchNode, TooSoon}
 use Rattle.reader.specs.declared.refusal.Answer.{Answer}
 pub use Rattle.reader.specs.declared.refusal.Told.{Told}
 use Rattle.reader.specs.declared.refusal.Answer.the-variants.{Done, Refused}
@@ -33,6 +33,7 @@ tell (NoPrimary j) = told 15 j j
 tell (NoBackup j) = told 16 j j
 tell (ShortBuffer n) = told 17 n 0
 tell (NoSuchNode q) = told 18 q 0
+tell (TooSoon j) = told 19 j j
 
 -- a first refusal as a step's answer
 abbrev pub answered : Option Refusal → Answer

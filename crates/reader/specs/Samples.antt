@@ -1,4 +1,4 @@
--- The jobs and plans of document 01's samples.
+-- The jobs and plans of document 01's samples, and of those of request (ii).
 use Prim.Native.Nat.{ℕ}
 use mathlib.Core.List.{List, [], _∷_}
 use lib.ListN.{length, getD, replicate}
@@ -16,15 +16,18 @@ use Rattle.reader.specs.Entries.{noNode, noLink, noPlace, blankTask}
 abbrev pub array : {A : Type 0} → ℕ → A → List A → List A
 array n blank l = fill (length l) (λ i. getD l i blank) (replicate n blank)
 
--- a task of this deadline, with the run time on each of three nodes
-abbrev pub taskOf : ℕ → ℕ → Task
-taskOf deadline run = record { deadline = deadline; run = array maxNodes 0 (run ∷ run ∷ run ∷ []) }
+-- a task of this ready time and this deadline, with the run time on each of three nodes
+abbrev pub readyTask : ℕ → ℕ → ℕ → Task
+readyTask ready deadline run = record { ready = ready; deadline = deadline; run = array maxNodes 0 (run ∷ run ∷ run ∷ []) }
 
--- 3 nodes with detect 1, these tasks and these links
-abbrev pub jobOf : List Task → List Link → Job
-jobOf ts ls =
+abbrev pub taskOf : ℕ → ℕ → Task
+taskOf = readyTask 0
+
+-- 3 nodes with detect 1, these tasks and these links, in this version
+abbrev pub jobIn : ℕ → List Task → List Link → Job
+jobIn version ts ls =
     record {
-      version = 1;
+      version = version;
       «node_count» = 3;
       nodes = array maxNodes noNode (let n : Node = record { detect = 1 } in n ∷ n ∷ n ∷ []);
       «task_count» = length ts;
@@ -32,6 +35,9 @@ jobOf ts ls =
       «link_count» = length ls;
       links = array maxLinks noLink ls;
     }
+
+abbrev pub jobOf : List Task → List Link → Job
+jobOf = jobIn 1
 
 abbrev pub linkOf : ℕ → ℕ → ℕ → Link
 linkOf from to delay = record { from = from; to = to; delay = delay }
@@ -50,6 +56,10 @@ twoTasks deadline = jobOf (taskOf 30 4 ∷ taskOf deadline 3 ∷ [])
 -- 'J: 3 nodes with detect 1; task 0 run 4 on each node, task 1 run 3, both deadlines 30; link 0 to 1, delay 2'
 abbrev pub J : Job
 J = twoTasks 30 (linkOf 0 1 2 ∷ [])
+
+-- the same in version 2, with these ready times
+abbrev pub JReady : ℕ → ℕ → Job
+JReady a b = jobIn 2 (readyTask a 30 4 ∷ readyTask b 30 3 ∷ []) (linkOf 0 1 2 ∷ [])
 
 abbrev pub JWithoutLink : Job
 JWithoutLink = twoTasks 30 []

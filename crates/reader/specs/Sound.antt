@@ -7,20 +7,24 @@ use Rattle.reader.specs.declared.job.Link.{Link}
 use Rattle.reader.specs.declared.job.Job.{Job}
 use Rattle.reader.specs.declared.plan.Plan.{Plan}
 use Rattle.reader.specs.Tests.{_and_, _or_}
-use Rattle.reader.specs.Limits.{fileVersion, minNodes, maxNodes, maxDetect, minTasks, maxTasks, minDeadline, maxLinks, maxTime, maxStart}
-use Rattle.reader.specs.Entries.{nodes, tasks, links, detect, deadline, run, link, place}
+use Rattle.reader.specs.Limits.{firstVersion, newestVersion, readySince, planVersion, minNodes, maxNodes, maxDetect, minTasks, maxTasks, minDeadline}
+use Rattle.reader.specs.Limits.{maxLinks, maxTime, maxStart}
+use Rattle.reader.specs.Entries.{nodes, tasks, links, detect, ready, deadline, run, link, place}
 
 -- 'links rise strictly by from, then to': l stands below m
 unfoldable pub below : Link → Link → Bool
 below l m = ltb (l .from) (m .from) or eqb (l .from) (m .from) and ltb (l .to) (m .to)
 
 pub record Sound (job : Job) : Type 0 where
-  pub version : job .version ≡ fileVersion
+  pub version-least : firstVersion ≤ job .version
+  pub version-most : job .version ≤ newestVersion
   pub nodes-least : minNodes ≤ nodes job
   pub nodes-most : nodes job ≤ maxNodes
   pub detect-most : (n : ℕ) → n < nodes job → detect job n ≤ maxDetect
   pub tasks-least : minTasks ≤ tasks job
   pub tasks-most : tasks job ≤ maxTasks
+  pub ready-most : (j : ℕ) → j < tasks job → ready job j ≤ maxTime
+  pub ready-lacks : (j : ℕ) → j < tasks job → job .version < readySince → ready job j ≡ 0
   pub deadline-least : (j : ℕ) → j < tasks job → minDeadline ≤ deadline job j
   pub deadline-most : (j : ℕ) → j < tasks job → deadline job j ≤ maxTime
   pub run-most : (j n : ℕ) → j < tasks job → n < nodes job → run job j n ≤ maxTime
@@ -31,7 +35,7 @@ pub record Sound (job : Job) : Type 0 where
   pub order : (k : ℕ) → suc k < links job → below (link job k) (link job (suc k)) ≡ true
 
 pub record PlanSound (job : Job) (plan : Plan) : Type 0 where
-  pub version : plan .version ≡ fileVersion
+  pub version : plan .version ≡ planVersion
   pub count : plan .«task_count» ≡ tasks job
   pub primary-node : (j : ℕ) → j < tasks job → place plan j .«primary_node» < nodes job
   pub primary-able : (j : ℕ) → j < tasks job → 0 < run job j (place plan j .«primary_node»)

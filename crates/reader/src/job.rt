@@ -8,6 +8,7 @@ pub struct Node {
 
 // A run time of 0 says that the node cannot run the task.
 pub struct Task {
+    pub ready: u32,
     pub deadline: u32,
     pub run: [u32; Job::MAX_NODES],
 }
@@ -18,7 +19,7 @@ pub struct Link {
     pub delay: u32,
 }
 
-// What the arrays hold beyond their counts is no part of the job.
+// What the arrays hold beyond their counts is no part of the job, and a field that its version lacks is none.
 pub struct Job {
     pub version: u32,
     pub node_count: u32,
@@ -30,7 +31,12 @@ pub struct Job {
 }
 
 impl Job {
-    pub const VERSION: usize = 1;
+    pub const FIRST_VERSION: usize = 1;
+
+    pub const NEWEST_VERSION: usize = 2;
+
+    // The versions with which fields came.
+    pub const READY_SINCE: usize = 2;
 
     pub const MIN_NODES: usize = 2;
 
@@ -46,17 +52,18 @@ impl Job {
 
     pub const MAX_LINKS: usize = 512;
 
-    // Deadlines, run times and delays.
+    // Ready times, deadlines, run times and delays.
     pub const MAX_TIME: usize = 1_000_000;
 
     // Bytes of the longest file.
-    pub const MAX_LENGTH: usize = 10_576;
+    pub const MAX_LENGTH: usize = 10_832;
 
     pub fn empty() -> Job
         ensures { λ r. ⌜ r ≡ emptyJob ⌝ }
     {
         let node = Node { detect: 0 };
         let task = Task {
+            ready: 0,
             deadline: 0,
             run: [0; Job::MAX_NODES],
         };

@@ -13,15 +13,24 @@ ghost use mathlib.Core.Path.{_≡_};
 ghost use mathlib.Core.List.{List};
 ghost use Prim.Native.Nat.{ℕ, _+_, _*_, _≤_, _<_};
 ghost use lib.ListN.{drop, replicate};
-ghost use Rattle.reader.specs.Limits.{maxNodes, minTasks, maxTasks, maxLinks};
-ghost use Rattle.reader.specs.Entries.{noLink, blankTask, emptyJob};
-ghost use Rattle.reader.specs.Number.{numberAt};
+ghost use Rattle.reader.specs.Limits.{newestVersion, maxNodes, minTasks, maxTasks, maxLinks};
+ghost use Rattle.reader.specs.Entries.{noNode, noLink, blankTask, emptyJob};
+ghost use Rattle.reader.specs.Number.{numberAt, versionFault, valueFault, numbered};
+ghost use Rattle.reader.specs.Fields.{nodeFields, widthIf, faultIf, valueIf, fieldsFault};
 ghost use Rattle.reader.specs.Reads.{Reads};
 ghost use Rattle.reader.specs.Sound.{below as belowOf};
-ghost use Rattle.reader.specs.JobFile.{nodeSection, nodesFault, nodesAt, runFault, runAt, taskFault, taskAt, tasksFault, tasksAt, linkFault, linkAt, linksFault, linksAt, readJob};
+ghost use Rattle.reader.specs.JobFile.{nodeWidth, taskWidth, nodeSection, taskSection, nodeAt, nodesFault, nodesAt, runFault, runAt, taskFault, taskAt, tasksFault, tasksAt, linkFault, linkAt, linksFault, linksAt, readJob};
+
+// An entry, or a section of them, with the offset behind it.
+pub struct OneNode {
+    pub answer: Answer,
+    pub end: usize,
+    pub node: Node,
+}
 
 pub struct Nodes {
     pub answer: Answer,
+    pub end: usize,
     pub count: usize,
     pub list: [Node; Job::MAX_NODES],
 }
@@ -33,11 +42,13 @@ pub struct Run {
 
 pub struct OneTask {
     pub answer: Answer,
+    pub end: usize,
     pub task: Task,
 }
 
 pub struct Tasks {
     pub answer: Answer,
+    pub end: usize,
     pub count: usize,
     pub list: [Task; Job::MAX_TASKS],
 }
@@ -58,41 +69,91 @@ pub struct JobRead {
     pub job: Job,
 }
 
-// The node section.
-fn read_nodes(file: &[u8]) -> Nodes
-    ensures { λ r. ⌜ r .count ≤ maxNodes ⌝ }
-    ensures { λ r. ⌜ Reads (nodesFault (now (file .entry))) (r .answer) ((r .count ≡ numberAt (now (file .entry)) nodeSection) × (r .list ≡ nodesAt (now (file .entry)) (r .count))) ⌝ }
+// A field from 0 to `high`, at offset `at` where the version has it; where it lacks it, what it counts as.
+fn field_if(part: &[u8], base: usize, at: usize, has: bool, high: usize, lacking: u32) -> Number
+    requires { ⌜ (base ≤ at) × (at ≤ 65536) ⌝ }
+    ensures { λ r. ⌜ ((file : List ℕ) → drop base file ≡ now (part .entry) → r ≡ numbered (faultIf has (valueFault file at 0 high)) (valueIf has (numberAt file at) lacking)) ⌝ }
+{
+    if has {
+        return field_of_part(part, base, at, 0, high, Refusal::Value(at));
+    }
+    Number::Is(lacking)
+}
+
+// The bytes of such a field.
+fn width_if(has: bool) -> usize
+    ensures { λ r. ⌜ (r ≡ widthIf has) × (r ≤ 4) ⌝ }
+{
+    if has { 4 } else { 0 }
+}
+
+fn no_node(answer: Answer) -> OneNode
+    ensures { λ r. ⌜ (r .answer ≡ answer) × (r .end ≡ 0) ⌝ }
+{
+    let node = Node { detect: 0 };
+    OneNode {
+        answer,
+        end: 0,
+        node,
+    }
+}
+
+// One node at an offset: its detect time, in every version.
+fn read_node(file: &[u8], version: usize, at: usize) -> OneNode
+    requires { ⌜ at ≤ 16384 ⌝ }
+    ensures { λ r. ⌜ r .end ≤ at + 32 ⌝ }
+    ensures { λ r. ⌜ Reads (fieldsFault version (now (file .entry)) at nodeFields) (r .answer) ((r .node ≡ nodeAt version (now (file .entry)) at) × (r .end ≡ at + nodeWidth version)) ⌝ }
+{
+    let d = field(file, at, 0, Job::MAX_DETECT, Refusal::Value(at));
+    let Number::Is(detect) = d else {
+        return no_node(handed_on(d));
+    };
+    OneNode {
+        answer: Answer::Done,
+        end: at + 4,
+        node: Node { detect },
+    }
+}
+
+fn no_nodes(answer: Answer) -> Nodes
+    ensures { λ r. ⌜ (r .answer ≡ answer) × (r .end ≡ 0) × (r .count ≡ 0) × (r .list ≡ replicate maxNodes noNode) ⌝ }
 {
     let none = Node { detect: 0 };
-    let mut list = [none; Job::MAX_NODES];
+    Nodes {
+        answer,
+        end: 0,
+        count: 0,
+        list: [none; Job::MAX_NODES],
+    }
+}
+
+// The node section.
+fn read_nodes(file: &[u8], version: usize) -> Nodes
+    ensures { λ r. ⌜ (r .count ≤ maxNodes) × (r .end ≤ 1024) ⌝ }
+    ensures { λ r. ⌜ Reads (nodesFault version (now (file .entry))) (r .answer) ((r .count ≡ numberAt (now (file .entry)) nodeSection) × (r .list ≡ nodesAt version (now (file .entry)) (r .count)) × (r .end ≡ taskSection version (r .count))) ⌝ }
+{
     let c = field(file, 4, Job::MIN_NODES, Job::MAX_NODES, Refusal::Count(4));
     let Number::Is(p) = c else {
-        return Nodes {
-            answer: handed_on(c),
-            count: 0,
-            list,
-        };
+        return no_nodes(handed_on(c));
     };
+    let mut read = no_nodes(Answer::Done);
     let count = p as usize;
+    let mut at: usize = 8;
     let mut i: usize = 0;
     while i < count {
-        let at = 8 + 4 * i;
-        let d = field(file, at, 0, Job::MAX_DETECT, Refusal::Value(at));
-        let Number::Is(detect) = d else {
-            return Nodes {
-                answer: handed_on(d),
-                count: 0,
-                list,
-            };
+        let n = read_node(file, version, at);
+        let answer = n.answer;
+        let Answer::Done = answer else {
+            return no_nodes(answer);
         };
-        list[i] = Node { detect };
+        let node = n.node;
+        read.list[i] = node;
+        at = n.end;
         i += 1;
     }
-    Nodes {
-        answer: Answer::Done,
-        count,
-        list,
-    }
+    read.count = count;
+    read.end = at;
+    read
 }
 
 // A run time for each node, from offset `at`; the part begins at offset `base` of the file.
@@ -120,56 +181,80 @@ fn read_run(part: &[u8], base: usize, at: usize, nodes: usize) -> Run
     }
 }
 
-// One task at offset `at`: its deadline, then its run times.
-fn read_task(part: &[u8], base: usize, at: usize, nodes: usize) -> OneTask
-    requires { ⌜ (base ≤ at) × (at ≤ 8192) × (nodes ≤ maxNodes) ⌝ }
-    ensures { λ r. ⌜ ((file : List ℕ) → drop base file ≡ now (part .entry) → Reads (taskFault file at nodes) (r .answer) (r .task ≡ taskAt file at nodes)) ⌝ }
+fn no_task(answer: Answer) -> OneTask
+    ensures { λ r. ⌜ (r .answer ≡ answer) × (r .end ≡ 0) ⌝ }
 {
+    let task = Task {
+        ready: 0,
+        deadline: 0,
+        run: [0; Job::MAX_NODES],
+    };
+    OneTask {
+        answer,
+        end: 0,
+        task,
+    }
+}
+
+// One task at offset `at`: its ready time where the version has it, its deadline, then its run times.
+fn read_task(part: &[u8], base: usize, version: usize, at: usize, nodes: usize) -> OneTask
+    requires { ⌜ (base ≤ at) × (at ≤ 8192) × (nodes ≤ maxNodes) ⌝ }
+    ensures { λ r. ⌜ r .end ≤ at + 96 ⌝ }
+    ensures { λ r. ⌜ ((file : List ℕ) → drop base file ≡ now (part .entry) → Reads (taskFault version file at nodes) (r .answer) ((r .task ≡ taskAt version file at nodes) × (r .end ≡ at + taskWidth version nodes))) ⌝ }
+{
+    let has = Job::READY_SINCE <= version;
+    let y = field_if(part, base, at, has, Job::MAX_TIME, 0);
+    let Number::Is(ready) = y else {
+        return no_task(handed_on(y));
+    };
+    let then = at + width_if(has);
     let d = field_of_part(
         part,
         base,
-        at,
+        then,
         Job::MIN_DEADLINE,
         Job::MAX_TIME,
-        Refusal::Value(at),
+        Refusal::Value(then),
     );
     let Number::Is(deadline) = d else {
-        return OneTask {
-            answer: handed_on(d),
-            task: Task {
-                deadline: 0,
-                run: [0; Job::MAX_NODES],
-            },
-        };
+        return no_task(handed_on(d));
     };
-    let r = read_run(part, base, at + 4, nodes);
+    let r = read_run(part, base, then + 4, nodes);
     let answer = r.answer;
     let run = r.times;
+    let task = Task {
+        ready,
+        deadline,
+        run,
+    };
     OneTask {
         answer,
-        task: Task { deadline, run },
+        end: then + 4 + 4 * nodes,
+        task,
     }
 }
 
 fn no_tasks(answer: Answer) -> Tasks
-    ensures { λ r. ⌜ (r .answer ≡ answer) × (r .count ≡ 0) × (r .list ≡ replicate maxTasks blankTask) ⌝ }
+    ensures { λ r. ⌜ (r .answer ≡ answer) × (r .end ≡ 0) × (r .count ≡ 0) × (r .list ≡ replicate maxTasks blankTask) ⌝ }
 {
     let none = Task {
+        ready: 0,
         deadline: 0,
         run: [0; Job::MAX_NODES],
     };
     Tasks {
         answer,
+        end: 0,
         count: 0,
         list: [none; Job::MAX_TASKS],
     }
 }
 
 // The task section, with which the part begins.
-fn read_tasks(part: &[u8], base: usize, nodes: usize) -> Tasks
+fn read_tasks(part: &[u8], base: usize, version: usize, nodes: usize) -> Tasks
     requires { ⌜ (base ≤ 1024) × (nodes ≤ maxNodes) ⌝ }
-    ensures { λ r. ⌜ r .count ≤ maxTasks ⌝ }
-    ensures { λ r. ⌜ ((file : List ℕ) → drop base file ≡ now (part .entry) → Reads (tasksFault file base nodes) (r .answer) ((r .count ≡ numberAt file base) × (r .list ≡ tasksAt file base nodes (r .count)))) ⌝ }
+    ensures { λ r. ⌜ (r .count ≤ maxTasks) × (r .end ≤ 8192) ⌝ }
+    ensures { λ r. ⌜ ((file : List ℕ) → drop base file ≡ now (part .entry) → Reads (tasksFault version file base nodes) (r .answer) ((r .count ≡ numberAt file base) × (r .list ≡ tasksAt version file base nodes (r .count)) × (r .end ≡ base + 4 + r .count * taskWidth version nodes))) ⌝ }
 {
     let c = field_of_part(
         part,
@@ -187,17 +272,18 @@ fn read_tasks(part: &[u8], base: usize, nodes: usize) -> Tasks
     let mut at = base + 4;
     let mut i: usize = 0;
     while i < count {
-        let t = read_task(part, base, at, nodes);
+        let t = read_task(part, base, version, at, nodes);
         let answer = t.answer;
         let Answer::Done = answer else {
             return no_tasks(answer);
         };
         let task = t.task;
         read.list[i] = task;
-        at += 4 + 4 * nodes;
+        at = t.end;
         i += 1;
     }
     read.count = count;
+    read.end = at;
     read
 }
 
@@ -301,6 +387,19 @@ fn read_links(file: &[u8], at: usize, tasks: usize) -> Links
     read
 }
 
+// The version, up to the newest that this reader knows.
+fn read_version(file: &[u8]) -> Number
+    ensures { λ r. ⌜ r ≡ numbered (versionFault newestVersion (now (file .entry))) (numberAt (now (file .entry)) 0) ⌝ }
+{
+    field(
+        file,
+        0,
+        Job::FIRST_VERSION,
+        Job::NEWEST_VERSION,
+        Refusal::Version(0),
+    )
+}
+
 fn no_job(answer: Answer) -> JobRead
     ensures { λ r. ⌜ (r .answer ≡ answer) × (r .job ≡ emptyJob) ⌝ }
 {
@@ -314,22 +413,22 @@ fn no_job(answer: Answer) -> JobRead
 pub fn read_job(file: &[u8]) -> JobRead
     ensures { λ r. ⌜ r ≡ readJob (now (file .entry)) ⌝ }
 {
-    let v = field(file, 0, Job::VERSION, Job::VERSION, Refusal::Version(0));
+    let v = read_version(file);
     let Number::Is(version) = v else {
         return no_job(handed_on(v));
     };
-    let nodes = read_nodes(file);
+    let nodes = read_nodes(file, version as usize);
     let na = nodes.answer;
     let Answer::Done = na else {
         return no_job(na);
     };
-    let start = 8 + 4 * nodes.count;
-    let tasks = read_tasks(&file[start..], start, nodes.count);
+    let start = nodes.end;
+    let tasks = read_tasks(&file[start..], start, version as usize, nodes.count);
     let ta = tasks.answer;
     let Answer::Done = ta else {
         return no_job(ta);
     };
-    let behind = start + 4 + tasks.count * (4 + 4 * nodes.count);
+    let behind = tasks.end;
     let links = read_links(file, behind, tasks.count);
     let la = links.answer;
     let Answer::Done = la else {

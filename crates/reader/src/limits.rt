@@ -5,7 +5,9 @@ ghost use mathlib.Core.Path.{_≡_};
 ghost use Rattle.reader.specs.Limits.{limits};
 
 pub struct Limits {
-    pub job_version: usize,
+    pub first_version: usize,
+    pub newest_version: usize,
+    pub ready_since: usize,
     pub min_nodes: usize,
     pub max_nodes: usize,
     pub max_detect: usize,
@@ -25,7 +27,9 @@ impl Limits {
         ensures { λ r. ⌜ r ≡ limits ⌝ }
     {
         Limits {
-            job_version: Job::VERSION,
+            first_version: Job::FIRST_VERSION,
+            newest_version: Job::NEWEST_VERSION,
+            ready_since: Job::READY_SINCE,
             min_nodes: Job::MIN_NODES,
             max_nodes: Job::MAX_NODES,
             max_detect: Job::MAX_DETECT,

@@ -1,4 +1,4 @@
-// Refusals: why a step is declined, one case for each row of document 01's table.
+// Refusals: why a step is declined, one case for each row of document 01's table, and of those that document 02 adds.
 ghost use mathlib.Core.Path.{_≡_};
 ghost use Rattle.reader.specs.Refusals.{told, tell, packed, result};
 
@@ -22,6 +22,7 @@ pub enum Refusal {
     NoBackup(usize),
     ShortBuffer(usize),
     NoSuchNode(u32),
+    TooSoon(usize),
 }
 
 // The answer of a step: done, or the first refusal.
@@ -82,6 +83,7 @@ impl Refusal {
             Refusal::NoBackup(j) => Told::of(16, j, j),
             Refusal::ShortBuffer(n) => Told::of(17, n, 0),
             Refusal::NoSuchNode(q) => Told::of(18, q as usize, 0),
+            Refusal::TooSoon(j) => Told::of(19, j, j),
         }
     }
 }

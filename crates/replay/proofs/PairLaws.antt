@@ -12,7 +12,7 @@ use Rattle.reader.specs.Sound.{Sound, PlanSound}
 use Rattle.reader.proofs.TestLaws.{split}
 use Rattle.rules.specs.declared.Loss.{Loss}
 use Rattle.rules.specs.Copies.{copy}
-use Rattle.rules.specs.Rules.{Row, rows, ruleB}
+use Rattle.rules.specs.Rules.{Row, rows, ruleReady, ruleB}
 use Rattle.rules.specs.Replay.{TaskRun, isFinished, attempt, fed, runPrimary, runBackup, runTask, finishOf}
 use Rattle.rules.proofs.FaultSetLaws.{row-primary, row-backup}
 use Rattle.replay.specs.declared.states.Pair.{Pair}
@@ -27,7 +27,7 @@ once-finished job t loss before j x e h = rw e (rw (rw e at h))
 -- the run of a task whose copies are x
 pub run-pair : (job : Job) (t : ℕ → Row) (loss : Loss) (before : ℕ → TaskRun) (j : ℕ) (x : Pair) (f g : Bool)
     → t j .primary ≡ x .primary → t j .backup ≡ x .backup → ruleB job (t j) ≡ x .detected
-    → f ≡ fed job t before j (t j .primary) → g ≡ fed job t before j (t j .backup)
+    → f ≡ (ruleReady job j (t j .primary) and fed job t before j (t j .primary)) → g ≡ fed job t before j (t j .backup)
     → outcome (pairRow x) (runFed job loss f g x) ≡ outcome (t j) (runTask job t loss before j)
 unfolding runTask runPrimary runBackup runFed outcome finishOf
 run-pair job t loss before j x f g p b d fp fb = rw (← fp, ← fb, d, p, b)

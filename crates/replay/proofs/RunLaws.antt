@@ -2,24 +2,25 @@
 use Prim.Native.Nat.{ℕ, _+_, _≤_, _<_, max}
 use mathlib.Core.Bool.{Bool}
 use mathlib.Core.List.{List}
-use mathlib.Core.Path.{_≡_, refl, sym, _∙_, ap}
+use mathlib.Core.Path.{_≡_, refl, sym, _∙_, ap, ap₂}
 use native.Mathlib.Omega.{arith}
 use lib.Dec.{leb, eqb}
 use lib.ListN.{getD, set, replicate}
 use borrow.Author.Tests.{eq-eqb, ne-eqb}
 use Rattle.reader.specs.declared.job.Job.{Job}
 use Rattle.reader.specs.declared.plan.Plan.{Plan}
-use Rattle.reader.specs.Tests.{_implies_}
+use Rattle.reader.specs.Tests.{_and_, _implies_}
 use Rattle.reader.specs.First.{fill}
 use Rattle.reader.specs.Limits.{maxTasks, maxStart}
-use Rattle.reader.specs.Entries.{tasks, links, link, place}
+use Rattle.reader.specs.Entries.{tasks, links, task, link, place}
 use Rattle.reader.specs.Sound.{Sound, PlanSound}
 use Rattle.rules.specs.declared.Copy.{Copy}
 use Rattle.rules.specs.declared.Loss.{Loss}
-use Rattle.rules.specs.Rules.{Row, rows}
+use Rattle.rules.specs.Rules.{Row, rows, ruleReady}
 use Rattle.rules.specs.Replay.{TaskRun, arrived, fed, runTask, replay}
 use Rattle.rules.proofs.FaultSetLaws.{runs-own}
 use Rattle.copies.specs.Arrival.{delayOf, SumFits}
+use Rattle.copies.proofs.ArrivalLaws.{leb-max}
 use Rattle.replay.specs.declared.states.Pair.{Pair}
 use Rattle.replay.specs.declared.states.Outcome.{Outcome}
 use Rattle.replay.specs.declared.progress.Progress.{Progress}
@@ -155,25 +156,38 @@ module _ (job : Job) (plan : Plan) (loss : Loss) (both : Sound job × PlanSound 
           ∙ every-rest (test job T R c j) k (links job) (u .links-within) λ m p q.
           rw (ne-eqb (link job m .to) j (λ e. omega (arith, ahead job sound j k m (left (omega arith)) p q, sound .rise m q)))
 
+      -- the primary may start from then on
+      abbrev soonest : ℕ
+      soonest = max (getD (r .primary) j 0) (task job j .ready)
+
+      soonest-is : (v s : ℕ) → v ≡ soonest → T j .primary .start ≡ s → leb v s ≡ (ruleReady job j (T j .primary) and fed job T R j (T j .primary))
+      unfolding ruleReady
+      soonest-is v s ev e =
+          let turned : v ≡ max (task job j .ready) (getD (r .primary) j 0) = omega arith in
+          ap (λ v. leb v s) turned
+          ∙ leb-max (task job j .ready) _ s
+          ∙ ap₂ (λ a b. a and b) (ap (leb (task job j .ready)) (sym e)) (fed-is (λ t. T t .primary) (r .primary) s (u .primary-ready) e)
+
       -- what `settle` tells
-      told : (x : Pair) (o : Outcome) → x ≡ pair job plan both j
-          → o ≡ outcome (pairRow x) (runFrom job loss (getD (r .primary) j 0) (getD (r .backup) j 0) x) → o ≡ replayed job plan loss j
-      told x o ex eo =
+      told : (x : Pair) (v : ℕ) (o : Outcome) → x ≡ pair job plan both j → v ≡ soonest
+          → o ≡ outcome (pairRow x) (runFrom job loss v (getD (r .backup) j 0) x) → o ≡ replayed job plan loss j
+      told x v o ex ev eo =
           let p = primary-is job plan both j below in
           let b = backup-is job plan both j below in
           eo
-          ∙ ap (λ x. outcome (pairRow x) (runFrom job loss (getD (r .primary) j 0) (getD (r .backup) j 0) x)) ex
+          ∙ ap (λ x. outcome (pairRow x) (runFrom job loss v (getD (r .backup) j 0) x)) ex
           ∙ run-pair job T loss R j (pair job plan both j) _ _ p b (detected-is job plan both j below)
-          (fed-is (λ t. T t .primary) (r .primary) _ (u .primary-ready) (ap (λ c. c .start) p))
+          (soonest-is v _ ev (ap (λ c. c .start) p))
           (fed-is (λ t. T t .backup) (r .backup) _ (u .backup-ready) (ap (λ c. c .start) b))
           ∙ ap (λ x. outcome (T j) x) (sym (run-own j below))
 
-      pub upto-settled : (x : Pair) (o : Outcome) (a n : ℕ) → x ≡ pair job plan both j
-          → o ≡ outcome (pairRow x) (runFrom job loss (getD (r .primary) j 0) (getD (r .backup) j 0) x)
+      pub upto-settled : (x : Pair) (v : ℕ) (o : Outcome) (a n : ℕ) → x ≡ pair job plan both j → v ≡ soonest
+          → o ≡ outcome (pairRow x) (runFrom job loss v (getD (r .backup) j 0) x)
           → a ≡ sentAt o → n ≡ sentFrom o (place plan j)
-          → Upto job plan loss (j + 1) k (record { of = set (r .of) j o; at = set (r .at) j a; node = set (r .node) j n; primary = r .primary; backup = r .backup })
-      upto-settled x o a n ex eo ea en =
-          let is = told x o ex eo in
+          → Upto job plan loss (j + 1) k
+          (record { of = set (r .of) j o; at = set (r .at) j a; node = set (r .node) j n; primary = r .primary; backup = r .backup })
+      upto-settled x v o a n ex ev eo ea en =
+          let is = told x v o ex ev eo in
           record {
             within = omega arith;
             links-within = u .links-within;

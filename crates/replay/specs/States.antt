@@ -37,7 +37,7 @@ pairAt t x detect =
       detected = leb (x .«primary_start» + getD (t .run) (x .«primary_node») 0 + detect) (x .«backup_start»);
     }
 
--- the run of a task of whose copies it is known whether all inputs are there, and from when they are
+-- the run of a task of whose copies it is known whether all that they wait for is there, and from when it is
 unfoldable pub runFed : Job → Loss → Bool → Bool → Pair → TaskRun
 runFed job loss fed fedBackup x =
     let p = attempt job loss fed (x .primary) in

@@ -11,6 +11,7 @@ use crate::states::Outcome;
 use crate::states::pair_of;
 use crate::states::settle;
 use crate::write::write_outcomes;
+use copies::arrival::later;
 use copies::arrival::ready_by;
 use reader::job::Job;
 use reader::plan::Plan;
@@ -29,6 +30,7 @@ pub struct Outcomes {
 }
 
 // Tasks go by number, and a task's result goes out by its links before the next task. Links rise by from, so each is looked at once.
+// A primary waits for its task's ready time too.
 pub fn replay_plan(job: Job, plan: Plan, loss: Loss) -> Outcomes
     requires { ⌜ Sound job × PlanSound job plan ⌝ }
     ensures { λ r. ⌜ r ≡ outcomes job plan loss ⌝ }
@@ -56,7 +58,7 @@ pub fn replay_plan(job: Job, plan: Plan, loss: Loss) -> Outcomes
         let p = x.primary_node as usize;
         let w = job.nodes[p];
         let y = pair_of(task, x, w.detect);
-        let o = settle(y, r.primary[j], r.backup[j], loss);
+        let o = settle(y, later(r.primary[j], task.ready), r.backup[j], loss);
         r.of[j] = o;
         r.at[j] = sent_at(o);
         r.node[j] = sent_from(o, x);

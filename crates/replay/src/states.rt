@@ -69,7 +69,7 @@ pub fn state_of(loss: Loss, may: bool, c: Copy) -> u32
     2
 }
 
-// What a task comes to, of whose copies it is known from when all inputs are there.
+// What a task comes to, of whose copies it is known from when all that they wait for is there.
 pub fn settle(x: Pair, ready: u32, ready_backup: u32, loss: Loss) -> Outcome
     ensures { λ r. ⌜ ((job : Job) → r ≡ outcome (pairRow x) (runFrom job loss ready «ready_backup» x)) ⌝ }
 {

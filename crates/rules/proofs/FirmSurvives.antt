@@ -97,8 +97,8 @@ module _ (job : Job) (sound : Sound job) (t : ℕ → Row) (faults : ℕ → ℕ
         not-by (no by) = clash _ (started-by job loss moment (t j .primary) late (firm .primary-runs j pj) (omega arith)) h
 
     unfinished-struck : isFinished (runPrimary job t loss x j) ≡ false → struck loss (faults j) ≡ true
-    unfolding runPrimary attempt
-    unfinished-struck h = split (fed job t x j (t j .primary)) (λ e. cut-struck (rw e at h)) unfed-struck
+    unfolding runPrimary attempt _and_
+    unfinished-struck = rw (firm .ready j pj) λ h. split (fed job t x j (t j .primary)) (λ e. cut-struck (rw e at h)) unfed-struck
 
     covered-next : Covered loss (faults j) (x j)
     unfolding runTask runBackup attempt _and_

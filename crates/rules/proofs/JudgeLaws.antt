@@ -1,5 +1,5 @@
 -- What the judge's answer says: passed is every rule everywhere, and a refusal names the first breach in document 01's order.
-use Prim.Native.Nat.{ℕ, zero, suc, _+_, _<_}
+use Prim.Native.Nat.{ℕ, zero, suc, _<_}
 use mathlib.Core.Path.{_≡_, sym, _∙_}
 use mathlib.Core.Option.{none, some}
 use mathlib.Core.Logic.{_↔_}
@@ -17,7 +17,7 @@ use Rattle.reader.proofs.FirstFails.{no-fail, first-fail, no-pair-fail, first-p
 use Rattle.reader.proofs.RefusalLaws.{answered-done, answered-refused}
 use Rattle.rules.specs.Rules.{Row, rows}
 use Rattle.rules.specs.Judge.{firstTask, firstLink, firstPair, breach, judge}
-use Rattle.rules.specs.Breach.{Check, onTasks, onLinks, onPairs, found, Everywhere, Broken, check, Kept, FirstBreach}
+use Rattle.rules.specs.Breach.{Check, onTasks, onLinks, onPairs, found, Everywhere, Broken, check, ruleNumber, Kept, FirstBreach}
 
 pub found-none : (job : Job) (c : Check) → (found job c ≡ none) ↔ Everywhere job c
 unfolding firstTask firstLink firstPair
@@ -31,51 +31,53 @@ found-some job (onTasks refusal rule) = first-fail (tasks job) rule refusal
 found-some job (onLinks refusal rule) = first-fail (links job) _ _
 found-some job (onPairs refusal rule) = first-pair-fail (tasks job) rule refusal
 
-pub breach-first : (job : Job) (t : ℕ → Row) → first 7 (λ n. found job (check job t n)) ≡ breach job t
+pub breach-first : (job : Job) (t : ℕ → Row) → first 8 (λ n. found job (check job t n)) ≡ breach job t
 unfolding breach first _or-else_
 breach-first job t = simp or-else-join
 
--- what holds of each of 0 to 6 holds below 7
-seven : (P : ℕ → Type 0) → P 0 → P 1 → P 2 → P 3 → P 4 → P 5 → P 6 → (n : ℕ) → n < 7 → P n
-seven P a b c d e f g zero p = a
-seven P a b c d e f g (suc zero) p = b
-seven P a b c d e f g (suc (suc zero)) p = c
-seven P a b c d e f g (suc (suc (suc zero))) p = d
-seven P a b c d e f g (suc (suc (suc (suc zero)))) p = e
-seven P a b c d e f g (suc (suc (suc (suc (suc zero))))) p = f
-seven P a b c d e f g (suc (suc (suc (suc (suc (suc zero)))))) p = g
-seven P a b c d e f g (suc (suc (suc (suc (suc (suc (suc n))))))) p = absurd (let z : ⊥ = omega arith in z)
+-- what holds of each of 0 to 7 holds below 8
+eight : (P : ℕ → Type 0) → P 0 → P 1 → P 2 → P 3 → P 4 → P 5 → P 6 → P 7 → (n : ℕ) → n < 8 → P n
+eight P a b c d e f g h zero p = a
+eight P a b c d e f g h (suc zero) p = b
+eight P a b c d e f g h (suc (suc zero)) p = c
+eight P a b c d e f g h (suc (suc (suc zero))) p = d
+eight P a b c d e f g h (suc (suc (suc (suc zero)))) p = e
+eight P a b c d e f g h (suc (suc (suc (suc (suc zero))))) p = f
+eight P a b c d e f g h (suc (suc (suc (suc (suc (suc zero)))))) p = g
+eight P a b c d e f g h (suc (suc (suc (suc (suc (suc (suc zero))))))) p = h
+eight P a b c d e f g h (suc (suc (suc (suc (suc (suc (suc (suc n)))))))) p = absurd (let z : ⊥ = omega arith in z)
 
 module _ (job : Job) (t : ℕ → Row) where
-  kept-check : Kept job t → (n : ℕ) → n < 7 → Everywhere job (check job t n)
-  kept-check k = seven (λ n. Everywhere job (check job t n)) (k .a) (k .b) (k .c) (k .d) (k .e) (k .f) (k .g)
+  kept-check : Kept job t → (n : ℕ) → n < 8 → Everywhere job (check job t n)
+  kept-check k = eight (λ n. Everywhere job (check job t n)) (k .a) (k .ready) (k .b) (k .c) (k .d) (k .e) (k .f) (k .g)
 
   pub no-breach : (breach job t ≡ none) ↔ Kept job t
   no-breach = (
     λ h.
-        let holds : (n : ℕ) → n < 7 → Everywhere job (check job t n) =
-        λ n p. found-none job (check job t n) .0 (none-first 7 _ (breach-first job t ∙ h) n p) in
+        let holds : (n : ℕ) → n < 8 → Everywhere job (check job t n) =
+        λ n p. found-none job (check job t n) .0 (none-first 8 _ (breach-first job t ∙ h) n p) in
         record {
           a = holds 0 (lit< tt);
-          b = holds 1 (lit< tt);
-          c = holds 2 (lit< tt);
-          d = holds 3 (lit< tt);
-          e = holds 4 (lit< tt);
-          f = holds 5 (lit< tt);
-          g = holds 6 (lit< tt);
+          ready = holds 1 (lit< tt);
+          b = holds 2 (lit< tt);
+          c = holds 3 (lit< tt);
+          d = holds 4 (lit< tt);
+          e = holds 5 (lit< tt);
+          f = holds 6 (lit< tt);
+          g = holds 7 (lit< tt);
         },
-    λ k. sym (breach-first job t) ∙ first-none 7 _ (λ n p. found-none job (check job t n) .1 (kept-check k n p)),
+    λ k. sym (breach-first job t) ∙ first-none 8 _ (λ n p. found-none job (check job t n) .1 (kept-check k n p)),
   )
 
-  check-number : (r : Refusal) (n : ℕ) → n < 7 → Broken job (check job t n) r → tell r .number ≡ 8 + n
+  check-number : (r : Refusal) (n : ℕ) → n < 8 → Broken job (check job t n) r → tell r .number ≡ ruleNumber n
   check-number r =
-      seven (λ n. Broken job (check job t n) r → tell r .number ≡ 8 + n)
-      (λ w. rw (← w .2)) (λ w. rw (← w .2)) (λ w. rw (← w .2)) (λ w. rw (← w .2)) (λ w. rw (← w .2)) (λ w. rw (← w .2)) (λ w. rw (← w .3))
+      eight (λ n. Broken job (check job t n) r → tell r .number ≡ ruleNumber n)
+      (λ w. rw (← w .2)) (λ w. rw (← w .2)) (λ w. rw (← w .2)) (λ w. rw (← w .2)) (λ w. rw (← w .2)) (λ w. rw (← w .2)) (λ w. rw (← w .2)) (λ w. rw (← w .3))
 
   pub first-breach : (r : Refusal) → (breach job t ≡ some r) ↔ FirstBreach job t r
   first-breach r = (
     λ h.
-        let hit = first-some 7 _ r (breach-first job t ∙ h) in
+        let hit = first-some 8 _ r (breach-first job t ∙ h) in
         let w = found-some job (check job t (hit .at)) r .0 (hit .is) in
         record {
           rule = hit .at;
@@ -84,7 +86,7 @@ module _ (job : Job) (t : ℕ → Row) where
           broken = w;
           before = λ n p. found-none job (check job t n) .0 (hit .least n p);
         },
-    λ b. sym (breach-first job t) ∙ some-first 7 _ r
+    λ b. sym (breach-first job t) ∙ some-first 8 _ r
         (record {
           at = b .rule;
           below = b .known;

@@ -1,4 +1,4 @@
--- What the planner's tests say: a primary keeps D and G, a row A, B, E, F and G, against the rows before them.
+-- What the planner's tests say: a primary keeps its ready time, D and G, a row A, B, E, F and G, against the rows before them.
 use Prim.Native.Nat.{ℕ, _<_}
 use mathlib.Core.Bool.{true}
 use mathlib.Core.Path.{_≡_, subst}
@@ -10,12 +10,13 @@ use Rattle.reader.specs.Sound.{Sound}
 use Rattle.reader.proofs.TestLaws.{and-l, and-r, and-i}
 use Rattle.reader.proofs.FirstLaws.{every-i, every-e}
 use Rattle.rules.specs.declared.Copy.{Copy}
-use Rattle.rules.specs.Rules.{Row, ruleA, ruleB, ruleD, ruleE, ruleF, ruleGPrimary, ruleGBackup}
+use Rattle.rules.specs.Rules.{Row, ruleA, ruleReady, ruleB, ruleD, ruleE, ruleF, ruleGPrimary, ruleGBackup}
 use Rattle.rules.specs.Planner.{primaryKeeps, backupKeeps}
 use Rattle.rules.proofs.LinkLaws.{every-into}
 
--- 'keeping D and G against copies already placed'
+-- the ready time, and 'D and G against copies already placed'
 pub record PrimaryKept (job : Job) (m : ℕ) (before : ℕ → Row) (j : ℕ) (p : Copy) : Type 0 where
+  pub ready : ruleReady job j p ≡ true
   pub d : (k : ℕ) → k < links job → link job k .to ≡ j → ruleD job (link job k) (before (link job k .from)) p ≡ true
   pub g : (i : ℕ) → i < m → ruleGPrimary (before i) p ≡ true
 
@@ -31,8 +32,10 @@ pub primary-keeps : (job : Job) (m : ℕ) (before : ℕ → Row) (j : ℕ) (p : 
     → (primaryKeeps job m before j p ≡ true) ↔ PrimaryKept job m before j p
 unfolding primaryKeeps
 primary-keeps job m before j p = (
-  λ h. record { d = every-into job j _ .0 (and-l _ _ h); g = every-e m _ (and-r _ _ h) },
-  λ k. and-i _ _ (every-into job j _ .1 (k .d)) (every-i m _ (k .g)),
+  λ h0.
+      let h1 = and-r _ _ h0 in
+      record { ready = and-l _ _ h0; d = every-into job j _ .0 (and-l _ _ h1); g = every-e m _ (and-r _ _ h1) },
+  λ k. and-i _ _ (k .ready) (and-i _ _ (every-into job j _ .1 (k .d)) (every-i m _ (k .g))),
 )
 
 pub backup-keeps : (job : Job) (m : ℕ) (before : ℕ → Row) (j : ℕ) (s : Row) → (backupKeeps job m before j s ≡ true) ↔ BackupKept job m before j s
@@ -60,6 +63,7 @@ module _ (job : Job) (sound : Sound job) (f g : ℕ → Row) (j : ℕ) (agree : 
   pub primary-kept-on : (p : Copy) → PrimaryKept job j f j p → PrimaryKept job j g j p
   primary-kept-on p k =
       record {
+        ready = k .ready;
         d = λ m pm e. subst (λ s. ruleD job (link job m) s p ≡ true) (from-agrees m pm e) (k .d m pm e);
         g = λ i pi. subst (λ s. ruleGPrimary s p ≡ true) (agree i pi) (k .g i pi);
       }

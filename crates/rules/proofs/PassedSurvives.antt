@@ -37,6 +37,7 @@ kept-firm job t own runs sound k =
       feeds-primary = k .d;
       feeds-backup = λ m pm. and-l _ _ (k .e m pm);
       backup-feeds = λ m loss pm of-job h g. imp-e _ _ (and-r _ _ (k .e m pm)) (struck-both job loss _ _ of-job h g);
+      ready = k .ready;
       detected = k .b;
       primary-runs = λ j p. runs j primary p;
       backup-runs = λ j p. runs j backup p;

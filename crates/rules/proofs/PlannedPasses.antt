@@ -127,6 +127,7 @@ module _ (job : Job) (sound : Sound job) where
   table-kept t keeps =
       record {
         a = λ j p. keeps j p .backup-kept .a;
+        ready = λ j p. keeps j p .primary-kept .ready;
         b = λ j p. keeps j p .backup-kept .b;
         c = λ j p.
             let backup = keeps j p .backup in

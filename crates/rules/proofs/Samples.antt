@@ -13,19 +13,23 @@ use Rattle.rules.specs.Replay.{replay, finishOf}
 use Rattle.rules.specs.Attempts.{_>>=_, _or-refuse_}
 use Rattle.rules.specs.Planner
 use Rattle.rules.specs.Planner.{planner}
-use Rattle.rules.specs.Samples.{table, asked, answers}
+use Rattle.rules.specs.Samples.{table, readyTable, asked, answers}
 
 -- all that the samples compute with
 unfoldable pub computed : Unit {0}
 unfolding _and_ _or_ _implies_ _or-else_ first unless when every any fill put grow Copies.copy Copies.overlap Copies.delay Copies.inTime Copies.domain
-    strong Rules.carries Rules.faultSet Rules.row Rules.blankRow Rules.plannedRow Rules.shareFault Rules.ruleA Rules.ruleB Rules.ruleC Rules.ruleD
-    Rules.ruleE Rules.ruleF Rules.ruleGPrimary Rules.ruleGBackup Rules.ruleG Judge.firstTask Judge.firstLink Judge.firstPair Judge.breach judge
+    strong Rules.carries Rules.faultSet Rules.row Rules.blankRow Rules.plannedRow Rules.shareFault Rules.ruleA Rules.ruleReady Rules.ruleB Rules.ruleC
+    Rules.ruleD Rules.ruleE Rules.ruleF Rules.ruleGPrimary Rules.ruleGBackup Rules.ruleG Judge.firstTask Judge.firstLink Judge.firstPair Judge.breach judge
     Replay.started Replay.attempt Replay.arrived Replay.fed Replay.runPrimary Replay.runBackup Replay.runTask replay finishOf _>>=_ _or-refuse_
     Planner.earliest Planner.primaryKeeps Planner.backupKeeps Planner.placeTask Planner.placeTasks Planner.placeOf Planner.planOf Planner.plannerWith
     planner
 computed = tt
 
--- each question of the table is answered so
+-- each question of the two tables is answered so
 pub samples : asked table ≡ answers table
 unfolding computed
 samples = refl
+
+pub ready-samples : asked readyTable ≡ answers readyTable
+unfolding computed
+ready-samples = refl

@@ -50,19 +50,19 @@ module _ (job : Job) (plan : Plan) where
   -- with rule E in its own place it is the judge
   pub judge-by : judgeBy ruleE job plan ≡ judge job plan
   unfolding judgeBy judge
-  judge-by = ap answered (first-same 7 _ _ (λ n p. same n) ∙ breach-first job t)
+  judge-by = ap answered (first-same 8 _ _ (λ n p. same n) ∙ breach-first job t)
     where
       same : (n : ℕ) → found job (checkBy ruleE job t n) ≡ found job (check job t n)
       same n =
-          split (eqb n 4)
-          (λ e. subst (λ m. found job (checkBy ruleE job t m) ≡ found job (check job t m)) (sym (eqb-true n 4 e)) refl)
+          split (eqb n 5)
+          (λ e. subst (λ m. found job (checkBy ruleE job t m) ≡ found job (check job t m)) (sym (eqb-true n 5 e)) refl)
           (λ e. rw e)
 
   holds : (n : ℕ) → found job (checkBy waitsForBoth job t n) ≡ none → Everywhere job (check job t n)
   holds n h =
-      split (eqb n 4)
-      (λ e. subst (λ m. Everywhere job (check job t m)) (sym (eqb-true n 4 e))
-      (λ k p. both-keeps job (link job k) _ _ (found-none job (checkBy waitsForBoth job t 4) .0 (rw e at h) k p)))
+      split (eqb n 5)
+      (λ e. subst (λ m. Everywhere job (check job t m)) (sym (eqb-true n 5 e))
+      (λ k p. both-keeps job (link job k) _ _ (found-none job (checkBy waitsForBoth job t 5) .0 (rw e at h) k p)))
       (λ e. found-none job (check job t n) .0 (rw e at h))
 
   -- no plan that passed under E of document 01 is turned down
@@ -70,7 +70,7 @@ module _ (job : Job) (plan : Plan) where
   unfolding judgeBy judge
   still-passed passed =
       answered-done _ .1
-      (sym (breach-first job t) ∙ first-none 7 _ λ n p. found-none job (check job t n) .1 (holds n (none-first 7 _ (answered-done _ .0 passed) n p)))
+      (sym (breach-first job t) ∙ first-none 8 _ λ n p. found-none job (check job t n) .1 (holds n (none-first 8 _ (answered-done _ .0 passed) n p)))
 
 -- sample 8 did not pass
 pub sample-eight : (judgeBy waitsForBoth (JWithDelay 6) plan8 ≡ Refused (BackupUnfed 0 1)) × (judge (JWithDelay 6) plan8 ≡ Done)

@@ -1,5 +1,5 @@
 -- What the judge's answers mean: every rule kept everywhere, or the first breach in document 01's order.
-use Prim.Native.Nat.{ℕ, _+_, _<_}
+use Prim.Native.Nat.{ℕ, _<_}
 use mathlib.Core.Bool.{Bool, true}
 use mathlib.Core.Path.{_≡_}
 use mathlib.Core.List.{[], _∷_}
@@ -8,11 +8,11 @@ use lib.ListN.{getD}
 use Rattle.reader.specs.declared.job.Job.{Job}
 use Rattle.reader.specs.declared.job.Link.{Link}
 use Rattle.reader.specs.declared.refusal.Refusal.{Refusal}
-use Rattle.reader.specs.declared.refusal.Refusal.the-variants.{SameNode, Early, Late, PrimaryUnfed, BackupUnfed, CommonLoss, Overlap}
+use Rattle.reader.specs.declared.refusal.Refusal.the-variants.{SameNode, TooSoon, Early, Late, PrimaryUnfed, BackupUnfed, CommonLoss, Overlap}
 use Rattle.reader.specs.Entries.{tasks, links, link}
 use Rattle.reader.specs.Refusals.{tell}
 use Rattle.reader.specs.First.{FirstFail, FirstPairFail}
-use Rattle.rules.specs.Rules.{Row, ruleA, ruleB, ruleC, ruleD, ruleE, ruleF, ruleG}
+use Rattle.rules.specs.Rules.{Row, ruleA, ruleReady, ruleB, ruleC, ruleD, ruleE, ruleF, ruleG}
 use Rattle.rules.specs.Judge.{firstTask, firstLink, firstPair}
 
 -- a rule, what it is tried on, and the refusal of what breaks it
@@ -40,11 +40,12 @@ Broken job (onLinks refusal rule) r =
     (k : ℕ) × FirstFail (links job) (λ k. rule (link job k)) k × (refusal (link job k .from) (link job k .to) ≡ r)
 Broken job (onPairs refusal rule) r = (i : ℕ) × (j : ℕ) × FirstPairFail (tasks job) rule i j × (refusal i j ≡ r)
 
--- rule n of the seven in the judge's order, A being 0
+-- rule n of the eight in the judge's order, A being 0
 abbrev pub check : Job → (ℕ → Row) → ℕ → Check
 check job t n =
     getD
     (onTasks SameNode (λ j. ruleA job (t j))
+    ∷ onTasks TooSoon (λ j. ruleReady job j (t j .primary))
     ∷ onTasks Early (λ j. ruleB job (t j))
     ∷ onTasks Late (λ j. ruleC job j (t j))
     ∷ onLinks PrimaryUnfed (λ l. ruleD job l (t (l .from)) (t (l .to) .primary))
@@ -54,9 +55,14 @@ check job t n =
     ∷ [])
     n (onTasks SameNode (λ j. true))
 
+-- and the number of its refusal
+abbrev pub ruleNumber : ℕ → ℕ
+ruleNumber n = getD (8 ∷ 19 ∷ 9 ∷ 10 ∷ 11 ∷ 12 ∷ 13 ∷ 14 ∷ []) n 0
+
 -- every rule of tasks and links everywhere, and at every pair of tasks what `pair` says
 pub record KeptWith (job : Job) (pair : Row → Row → Bool) (t : ℕ → Row) : Type 0 where
   pub a : (j : ℕ) → j < tasks job → ruleA job (t j) ≡ true
+  pub ready : (j : ℕ) → j < tasks job → ruleReady job j (t j .primary) ≡ true
   pub b : (j : ℕ) → j < tasks job → ruleB job (t j) ≡ true
   pub c : (j : ℕ) → j < tasks job → ruleC job j (t j) ≡ true
   pub d : (k : ℕ) → k < links job → ruleD job (link job k) (t (link job k .from)) (t (link job k .to) .primary) ≡ true
@@ -68,10 +74,10 @@ pub record KeptWith (job : Job) (pair : Row → Row → Bool) (t : ℕ → Row) 
 abbrev pub Kept : Job → (ℕ → Row) → Type 0
 Kept job t = KeptWith job (ruleG job) t
 
--- r's rule, of a number from 8 to 14, is broken first there, and the rules before it hold everywhere
+-- r's rule is broken first there, and the rules before it hold everywhere
 pub record FirstBreach (job : Job) (t : ℕ → Row) (r : Refusal) : Type 0 where
   pub rule : ℕ
-  pub known : rule < 7
-  pub number : tell r .number ≡ 8 + rule
+  pub known : rule < 8
+  pub number : tell r .number ≡ ruleNumber rule
   pub broken : Broken job (check job t rule) r
   pub before : (n : ℕ) → n < rule → Everywhere job (check job t n)

@@ -7,7 +7,7 @@ use Rattle.reader.specs.Entries.{tasks, links, deadline, link}
 use Rattle.rules.specs.declared.Loss.{Loss}
 use Rattle.rules.specs.declared.Loss.the-variants.{NoLoss, Lost}
 use Rattle.rules.specs.Copies.{overlap, inTime, domain}
-use Rattle.rules.specs.Rules.{Row, ruleB}
+use Rattle.rules.specs.Rules.{Row, ruleReady, ruleB}
 use Rattle.rules.specs.Survival.{LossOf, Role, primary, backup, copyOf}
 
 -- the lost domain is in the set s
@@ -36,6 +36,7 @@ pub record Firm (job : Job) (t : ℕ → Row) (faults : ℕ → ℕ → Bool) (m
       → struck loss (faults (link job k .from)) ≡ true → struck loss (faults (link job k .to)) ≡ true
       → inTime job (link job k) (t (link job k .from) .backup) (t (link job k .to) .backup) ≡ true
   -- times
+  pub ready : (j : ℕ) → j < tasks job → ruleReady job j (t j .primary) ≡ true
   pub detected : (j : ℕ) → j < tasks job → ruleB job (t j) ≡ true
   pub primary-runs : (j : ℕ) → j < tasks job → t j .primary .start < t j .primary .finish
   pub backup-runs : (j : ℕ) → j < tasks job → t j .backup .start < t j .backup .finish

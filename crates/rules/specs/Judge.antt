@@ -1,4 +1,4 @@
--- The judge: 'tries 8 to 14 in turn, each over all tasks (links, pairs) in rising order'.
+-- The judge: 'tries 8 to 14 in turn, each over all tasks (links, pairs) in rising order'; (ii) 19 'tried after 8 and before 9'.
 use Prim.Native.Nat.{ℕ}
 use mathlib.Core.Bool.{Bool}
 use mathlib.Core.Option.{Option}
@@ -7,13 +7,13 @@ use Rattle.reader.specs.declared.job.Job.{Job}
 use Rattle.reader.specs.declared.job.Link.{Link}
 use Rattle.reader.specs.declared.plan.Plan.{Plan}
 use Rattle.reader.specs.declared.refusal.Refusal.{Refusal}
-use Rattle.reader.specs.declared.refusal.Refusal.the-variants.{SameNode, Early, Late, PrimaryUnfed, BackupUnfed, CommonLoss, Overlap}
+use Rattle.reader.specs.declared.refusal.Refusal.the-variants.{SameNode, TooSoon, Early, Late, PrimaryUnfed, BackupUnfed, CommonLoss, Overlap}
 use Rattle.reader.specs.declared.refusal.Answer.{Answer}
 use Rattle.reader.specs.Tests.{_implies_}
 use Rattle.reader.specs.First.{_or-else_, first, unless}
 use Rattle.reader.specs.Refusals.{answered}
 use Rattle.reader.specs.Entries.{tasks, links, link}
-use Rattle.rules.specs.Rules.{Row, rows, ruleA, ruleB, ruleC, ruleD, ruleE, ruleF, ruleG}
+use Rattle.rules.specs.Rules.{Row, rows, ruleA, ruleReady, ruleB, ruleC, ruleD, ruleE, ruleF, ruleG}
 
 -- the first task, link or pair that breaks a rule, as a refusal
 unfoldable pub firstTask : Job → (ℕ → Refusal) → (ℕ → Bool) → Option Refusal
@@ -29,6 +29,7 @@ firstPair job refusal rule = first (tasks job) λ i. first (tasks job) λ j. unl
 unfoldable pub breach : Job → (ℕ → Row) → Option Refusal
 breach job t =
     firstTask job SameNode (λ j. ruleA job (t j))
+    or-else firstTask job TooSoon (λ j. ruleReady job j (t j .primary))
     or-else firstTask job Early (λ j. ruleB job (t j))
     or-else firstTask job Late (λ j. ruleC job j (t j))
     or-else firstLink job PrimaryUnfed (λ l. ruleD job l (t (l .from)) (t (l .to) .primary))

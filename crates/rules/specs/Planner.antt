@@ -15,7 +15,7 @@ use Rattle.reader.specs.Entries.{nodes, tasks, links, deadline, run, link, noPl
 use Rattle.rules.specs.declared.Copy.{Copy}
 use Rattle.rules.specs.Tables.{put}
 use Rattle.rules.specs.Copies.{copy}
-use Rattle.rules.specs.Rules.{Row, row, blankRow, ruleA, ruleB, ruleD, ruleE, ruleF, ruleGPrimary, ruleGBackup}
+use Rattle.rules.specs.Rules.{Row, row, blankRow, ruleA, ruleReady, ruleB, ruleD, ruleE, ruleF, ruleGPrimary, ruleGBackup}
 use Rattle.rules.specs.Attempts.{Attempt, placed, _>>=_, _or-refuse_}
 
 -- 'of all nodes and starts keeping [the rules], and finishing by the deadline, the earliest finish, then the lowest node.
@@ -26,11 +26,12 @@ earliest job j keeps =
     let c = copy job j n (t - run job j n) in
     when (ltb 0 (run job j n) and leb (run job j n) t and keeps c) c
 
--- the primary p of task j keeps 'D and G against copies already placed': those of the first m rows, of which rows not placed yet are
--- blank and hold no tick
+-- the primary p of task j keeps its ready time, and 'D and G against copies already placed': those of the first m rows, of which rows not
+-- placed yet are blank and hold no tick
 unfoldable pub primaryKeeps : Job → ℕ → (ℕ → Row) → ℕ → Copy → Bool
 primaryKeeps job m before j p =
-    every (links job) (λ k. let l = link job k in eqb (l .to) j implies ruleD job l (before (l .from)) p)
+    ruleReady job j p
+    and every (links job) (λ k. let l = link job k in eqb (l .to) j implies ruleD job l (before (l .from)) p)
     and every m (λ i. ruleGPrimary (before i) p)
 
 -- and passes a test of its own beside the rules

@@ -13,7 +13,7 @@ use Rattle.rules.specs.declared.Loss.{Loss}
 use Rattle.rules.specs.declared.Loss.the-variants.{NoLoss, Lost}
 use Rattle.rules.specs.Tables.{grow}
 use Rattle.rules.specs.Copies.{inTime, domain}
-use Rattle.rules.specs.Rules.{Row, ruleB, rows}
+use Rattle.rules.specs.Rules.{Row, ruleReady, ruleB, rows}
 
 -- what becomes of a copy
 pub data State : Type 0 where
@@ -57,9 +57,9 @@ unfoldable pub fed : Job → (ℕ → Row) → (ℕ → TaskRun) → ℕ → Cop
 fed job t before j c =
     every (links job) λ k. let l = link job k in eqb (l .to) j implies arrived job l (t (l .from)) (before (l .from)) c
 
--- 'A primary starts if its inputs are there.'
+-- 'A primary starts if its inputs are there', (ii) and no sooner than its ready time.
 unfoldable pub runPrimary : Job → (ℕ → Row) → Loss → (ℕ → TaskRun) → ℕ → State
-runPrimary job t loss before j = attempt job loss (fed job t before j (t j .primary)) (t j .primary)
+runPrimary job t loss before j = attempt job loss (ruleReady job j (t j .primary) and fed job t before j (t j .primary)) (t j .primary)
 
 -- 'A backup is called on if its primary did not finish; it then starts if B holds for it and its inputs are there.'
 unfoldable pub runBackup : Job → (ℕ → Row) → Loss → (ℕ → TaskRun) → ℕ → State → State

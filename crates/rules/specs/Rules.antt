@@ -1,4 +1,4 @@
--- The rules of a plan, A to G, over the rows of a table: judge and planner share them.
+-- The rules of a plan, A to G and the ready time, over the rows of a table: judge and planner share them.
 use Prim.Native.Nat.{ℕ, _+_}
 use mathlib.Core.Bool.{Bool, false, not}
 use lib.Dec.{leb, eqb}
@@ -7,7 +7,7 @@ use Rattle.reader.specs.declared.job.Link.{Link}
 use Rattle.reader.specs.declared.plan.Plan.{Plan}
 use Rattle.reader.specs.Tests.{_and_, _or_, _implies_}
 use Rattle.reader.specs.First.{any}
-use Rattle.reader.specs.Entries.{tasks, links, detect, deadline, link, place}
+use Rattle.reader.specs.Entries.{tasks, links, detect, ready, deadline, link, place}
 use Rattle.rules.specs.declared.Copy.{Copy}
 use Rattle.rules.specs.Tables.{grow}
 use Rattle.rules.specs.Copies.{copy, overlap, inTime, domain, domains}
@@ -60,6 +60,10 @@ shareFault job r s = any (domains job) λ q. r .faults q and s .faults q
 -- 'A. Primary and backup are on different nodes.'
 unfoldable pub ruleA : Job → Row → Bool
 ruleA job r = not (eqb (domain job (r .primary .node)) (domain job (r .backup .node)))
+
+-- (ii) 'A primary starts no sooner' than its task's ready time: p is primary j
+unfoldable pub ruleReady : Job → ℕ → Copy → Bool
+ruleReady job j p = leb (ready job j) (p .start)
 
 -- 'B. A backup starts no sooner than its primary's finish plus the detect time of the primary's node.'
 unfoldable pub ruleB : Job → Row → Bool

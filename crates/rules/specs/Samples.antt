@@ -1,4 +1,4 @@
--- The starred samples of document 01, as one table of questions and answers; sample 8 as request (i) has it.
+-- The starred samples of document 01, as one table of questions and answers; sample 8 as request (i) has it. Those of request (ii) behind them.
 use Prim.Native.Nat.{ℕ}
 use mathlib.Core.Bool.{Bool, true, false}
 use mathlib.Core.List.{List, [], _∷_}
@@ -9,7 +9,7 @@ use Rattle.reader.specs.declared.refusal.Answer.the-variants.{Done, Refused}
 use Rattle.reader.specs.Entries.{link}
 use Rattle.reader.specs.declared.refusal.Told.{Told}
 use Rattle.reader.specs.Refusals.{told, tell}
-use Rattle.reader.specs.Samples.{at, J, JWithoutLink, JWithDelay, JWithDeadline, _beside_, plan1}
+use Rattle.reader.specs.Samples.{at, J, JReady, JWithoutLink, JWithDelay, JWithDeadline, _beside_, plan1}
 use Rattle.rules.specs.declared.Loss.{Loss}
 use Rattle.rules.specs.declared.Loss.the-variants.{NoLoss, Lost}
 use Rattle.rules.specs.Rules.{rows, strong}
@@ -93,6 +93,22 @@ table =
     ∷ sample 8 (judges (JWithDelay 6) plan8) passed
     ∷ sample 9 (plans (JWithDeadline 12)) (planned plan1)
     ∷ sample 9 (plans (JWithDeadline 11)) (declined (told 16 1 1))
+    ∷ []
+
+-- (ii): ready times move a primary, or its plan is refused 19, after 8 and before 9, for the first such task; a primary that is not ready does
+-- not start; a backup is not held to the ready time
+abbrev pub readyTable : List Sample
+readyTable =
+    sample 12 (plans (JReady 0 0)) (planned plan1)
+    ∷ sample 12 (plans (JReady 0 6)) (planned (at 0 0 1 5 beside at 0 6 1 10))
+    ∷ sample 12 (plans (JReady 5 0)) (planned (at 0 5 1 10 beside at 0 9 1 14))
+    ∷ sample 13 (judges (JReady 0 4) plan1) passed
+    ∷ sample 13 (judges (JReady 0 5) plan1) (declined (told 19 1 1))
+    ∷ sample 13 (judges (JReady 1 5) plan1) (declined (told 19 0 0))
+    ∷ sample 13 (judges (JReady 0 5) (at 0 0 1 5 beside at 0 4 0 9)) (declined (told 8 1 1))
+    ∷ sample 13 (judges (JReady 0 5) (at 0 0 1 4 beside at 0 4 1 9)) (declined (told 19 1 1))
+    ∷ sample 13 (judges (JReady 0 6) (at 0 0 1 5 beside at 0 6 1 5)) (declined (told 9 1 1))
+    ∷ sample 14 (replays (JReady 0 10) plan1 NoLoss) (ran (wrote 2 0 4) (wrote 0 2 12))
     ∷ []
 
 abbrev pub asked : List Sample → List Outcome

@@ -20,12 +20,12 @@ use Rattle.rules.specs.Breach.{Check, onLinks, found, check}
 unfoldable pub waitsForBoth : Job → Link → Row → Row → Bool
 waitsForBoth job l r s = inTime job l (r .primary) (s .backup) and inTime job l (r .backup) (s .backup)
 
--- check n of the judge with this rule in E's place, which is 4, and the judge
+-- check n of the judge with this rule in E's place, which is 5, and the judge
 abbrev pub checkBy : (Job → Link → Row → Row → Bool) → Job → (ℕ → Row) → ℕ → Check
-checkBy rule job t n = cond (eqb n 4) (onLinks BackupUnfed (λ l. rule job l (t (l .from)) (t (l .to)))) (check job t n)
+checkBy rule job t n = cond (eqb n 5) (onLinks BackupUnfed (λ l. rule job l (t (l .from)) (t (l .to)))) (check job t n)
 
 unfoldable pub judgeBy : (Job → Link → Row → Row → Bool) → Job → Plan → Answer
-judgeBy rule job plan = answered (first 7 λ n. found job (checkBy rule job (rows job plan) n))
+judgeBy rule job plan = answered (first 8 λ n. found job (checkBy rule job (rows job plan) n))
 
 -- E with its second half never asked
 unfoldable pub neverWaits : Job → Link → Row → Row → Bool

@@ -7,7 +7,7 @@ use mathlib.Core.Logic.{⊎-elim}
 use mathlib.Core.Option.{Option, some}
 use Rattle.reader.specs.declared.job.Job.{Job}
 use Rattle.reader.specs.declared.refusal.Refusal.{Refusal}
-use Rattle.reader.specs.declared.refusal.Refusal.the-variants.{SameNode, Early, Late, PrimaryUnfed, BackupUnfed, CommonLoss, Overlap}
+use Rattle.reader.specs.declared.refusal.Refusal.the-variants.{SameNode, TooSoon, Early, Late, PrimaryUnfed, BackupUnfed, CommonLoss, Overlap}
 use Rattle.reader.specs.declared.refusal.Refusal.the-variants.{NoPrimary, NoBackup, NoSuchNode}
 use Rattle.reader.specs.Entries.{tasks, links, link}
 use Rattle.reader.specs.Sound.{Sound}
@@ -51,12 +51,13 @@ module _ (job : Job) (sound : Sound job) where
   breach-fits t =
       let from-below : (k : ℕ) → k < links job → link job k .from < tasks job = λ k p. omega (arith, sound .rise k p, sound .into k p) in
       fits-or-else _ _ (fits-first _ _ (λ j p. fits-unless _ _ (named (SameNode j) p p))) (λ _.
+      fits-or-else _ _ (fits-first _ _ (λ j p. fits-unless _ _ (named (TooSoon j) p p))) (λ _.
       fits-or-else _ _ (fits-first _ _ (λ j p. fits-unless _ _ (named (Early j) p p))) (λ _.
       fits-or-else _ _ (fits-first _ _ (λ j p. fits-unless _ _ (named (Late j) p p))) (λ _.
       fits-or-else _ _ (fits-first _ _ (λ k p. fits-unless _ _ (named (PrimaryUnfed _ _) (from-below k p) (sound .into k p)))) (λ _.
       fits-or-else _ _ (fits-first _ _ (λ k p. fits-unless _ _ (named (BackupUnfed _ _) (from-below k p) (sound .into k p)))) (λ _.
       fits-or-else _ _ (fits-first _ _ (λ j p. fits-unless _ _ (named (CommonLoss j) p p))) (λ _.
-      fits-first _ _ (λ i p. fits-first _ _ (λ j q. fits-unless _ _ (named (Overlap i j) p q)))))))))
+      fits-first _ _ (λ i p. fits-first _ _ (λ j q. fits-unless _ _ (named (Overlap i j) p q))))))))))
 
   planner-fits : FaultFits (refusalOf (planner job))
   planner-fits r e =

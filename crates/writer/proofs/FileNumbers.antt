@@ -2,30 +2,38 @@
 use Prim.Native.Nat.{ℕ, _+_, _*_, _≤_, min}
 use native.Mathlib.Nat.{min-eq-left}
 use native.Mathlib.Omega.{arith}
-use mathlib.Core.Path.{_≡_, refl, ap, _∙_}
+use mathlib.Core.Path.{_≡_, refl, ap}
 use mathlib.Core.List.{List, [], _∷_}
 use lib.ListN.{length, getD}
 use Rattle.reader.specs.declared.job.Job.{Job}
 use Rattle.reader.specs.Limits.{maxNodes, maxTasks, maxLinks}
-use Rattle.reader.specs.Entries.{nodes, tasks, links, link, task, place}
+use Rattle.reader.specs.Entries.{nodes, tasks, links, node, link, task, place}
 use Rattle.reader.specs.Sound.{Sound}
 use Rattle.reader.specs.Number.{numberAt}
-use Rattle.reader.specs.JobFile.{taskSection, linkSection, jobLength, nodeCount, taskCount, linkCount, taskAt, linkAt, jobAt}
+use Rattle.reader.specs.JobFile.{jobVersion, nodeWidth, taskWidth, taskSection, linkSection, jobLength, nodeCount, taskCount, linkCount}
+use Rattle.reader.specs.JobFile.{nodeAt, runAt, taskAt, linkAt, jobAt}
+use Rattle.reader.specs.Fields.{nodeFields, taskFields, width, fieldsAt}
 use Rattle.reader.specs.PlanFile.{placeAt, planAt, planLength}
 use Rattle.writer.specs.Write.{flat, nodeNumbers, taskNumbers, linkNumbers, placeNumbers, numbersOf, jobNumbers, planNumbers}
 use Rattle.reader.proofs.Accepted.{GoodJob, GoodPlan}
 use Rattle.reader.proofs.LengthLaws.{job-length, plan-length}
-use Rattle.reader.proofs.EntryLaws.{detect-at, run-at, task-at, link-at, place-at}
-use Rattle.writer.proofs.Segments.{Stands, stands-one, stands-two, stands-append, stands-flat}
+use Rattle.reader.proofs.EntryLaws.{node-at, run-at, task-at, link-at, place-at}
+use Rattle.writer.proofs.Segments.{Stands, stands-one, stands-two, stands-last, stands-append, stands-flat}
+use Rattle.writer.proofs.HeldLaws.{fields-stand}
 
 -- the numbers of one entry, from the offset where it stands
-task-stands : (s : List ℕ) (job : Job) (j at p : ℕ) → p ≤ maxNodes → task job j ≡ taskAt s at p → Stands s at (taskNumbers job p j) (at + (4 + 4 * p))
-unfolding taskNumbers taskAt Stands
-task-stands s job j at p m e =
-    let z : at + 4 + 4 * p ≡ at + (4 + 4 * p) = omega arith in
-    let runs = stands-flat s (λ i. at + 4 + 4 * i) 4 (λ i. getD (task job j .run) i 0 ∷ []) p (at + 4) (omega arith) (λ i. omega arith)
-    (λ i l. (ap (λ t. getD (t .run) i 0) e ∙ run-at s (at + 4) p i m l, refl)) in
-    (ap (λ t. t .deadline) e, rw z at runs)
+node-stands : (v : ℕ) (s : List ℕ) (at : ℕ) → Stands s at (nodeNumbers v (nodeAt v s at)) (at + nodeWidth v)
+unfolding nodeNumbers nodeAt nodeWidth nodeFields fieldsAt
+node-stands v s at = fields-stand v nodeFields s at
+
+task-stands : (v : ℕ) (s : List ℕ) (at p : ℕ) → p ≤ maxNodes → Stands s at (taskNumbers v p (taskAt v s at p)) (at + taskWidth v p)
+unfolding taskNumbers taskAt taskWidth taskFields fieldsAt
+task-stands v s at p m =
+    let behind = at + width v taskFields in
+    let z : behind + 4 * p ≡ at + (width v taskFields + 4 * p) = omega arith in
+    let runs = stands-flat s (λ i. behind + 4 * i) 4 (λ i. getD (runAt s behind p) i 0 ∷ []) p behind (omega arith) (λ i. omega arith)
+    (λ i l. stands-last s _ _ (run-at s behind p i m l)) in
+    stands-append s _ _ at behind _ (fields-stand v taskFields s at) (rw z at runs)
 
 further : (s : List ℕ) (a b : ℕ) → a ≡ b → numberAt s a ≡ numberAt s b
 further s a b e = ap (λ k. numberAt s k) e
@@ -46,32 +54,40 @@ unfolding jobNumbers
 job-numbers job p n m = rw (min-eq-left p, min-eq-left n, min-eq-left m)
 
 module _ (s : List ℕ) (g : GoodJob s) where
-  nodes-stand : Stands s 8 (flat (nodeCount s) (nodeNumbers (jobAt s))) (taskSection (nodeCount s))
-  unfolding Stands nodeNumbers
+  abbrev v : ℕ
+  v = jobVersion s
+
+  abbrev p : ℕ
+  p = nodeCount s
+
+  abbrev n : ℕ
+  n = taskCount s
+
+  nodes-stand : Stands s 8 (flat p (λ i. nodeNumbers v (node (jobAt s) i))) (taskSection v p)
   nodes-stand =
-      stands-flat s (λ i. 8 + 4 * i) 4 (nodeNumbers (jobAt s)) (nodeCount s) 8 refl (λ i. omega arith)
-      (λ i p. (detect-at s i (g .nodes .count .most) p, refl))
+      stands-flat s (λ i. 8 + i * nodeWidth v) (nodeWidth v) (λ i. nodeNumbers v (node (jobAt s) i)) p 8 (omega arith) (λ i. omega arith)
+      (λ i l. rw (node-at s i (g .nodes .count .most) l) (node-stands v s _))
 
-  tasks-stand : Stands s (taskSection (nodeCount s) + 4) (flat (taskCount s) (taskNumbers (jobAt s) (nodeCount s))) (linkSection (nodeCount s) (taskCount s))
+  tasks-stand : Stands s (taskSection v p + 4) (flat n (λ j. taskNumbers v p (task (jobAt s) j))) (linkSection v p n)
   tasks-stand =
-      stands-flat s (λ j. taskSection (nodeCount s) + 4 + j * (4 + 4 * nodeCount s)) (4 + 4 * nodeCount s) (taskNumbers (jobAt s) (nodeCount s)) (taskCount s)
-      (taskSection (nodeCount s) + 4) (omega arith) (λ j. omega arith)
-      (λ j p. task-stands s (jobAt s) j _ (nodeCount s) (g .nodes .count .most) (task-at s j (g .tasks .count .most) p))
+      stands-flat s (λ j. taskSection v p + 4 + j * taskWidth v p) (taskWidth v p) (λ j. taskNumbers v p (task (jobAt s) j)) n
+      (taskSection v p + 4) (omega arith) (λ j. omega arith)
+      (λ j l. rw (task-at s j (g .tasks .count .most) l) (task-stands v s _ p (g .nodes .count .most)))
 
-  links-stand : Stands s (linkSection (nodeCount s) (taskCount s) + 4) (flat (linkCount s) (λ k. linkNumbers (link (jobAt s) k))) (jobLength (nodeCount s) (taskCount s) (linkCount s))
+  links-stand : Stands s (linkSection v p n + 4) (flat (linkCount s) (λ k. linkNumbers (link (jobAt s) k))) (jobLength v p n (linkCount s))
   links-stand =
-      stands-flat s (λ k. linkSection (nodeCount s) (taskCount s) + 4 + 12 * k) 12 (λ k. linkNumbers (link (jobAt s) k)) (linkCount s)
-      (linkSection (nodeCount s) (taskCount s) + 4) (omega arith) (λ k. omega arith)
-      (λ k p. rw (link-at s k (g .links .count .most) p) (link-stands s _))
+      stands-flat s (λ k. linkSection v p n + 4 + 12 * k) 12 (λ k. linkNumbers (link (jobAt s) k)) (linkCount s)
+      (linkSection v p n + 4) (omega arith) (λ k. omega arith)
+      (λ k l. rw (link-at s k (g .links .count .most) l) (link-stands s _))
 
-  numbers-stand : Stands s 0 (numbersOf (jobAt s) (nodeCount s) (taskCount s) (linkCount s)) (jobLength (nodeCount s) (taskCount s) (linkCount s))
+  numbers-stand : Stands s 0 (numbersOf (jobAt s) p n (linkCount s)) (jobLength v p n (linkCount s))
   unfolding numbersOf jobAt
   numbers-stand =
       stands-append s _ _ _ _ _ (stands-two s 0)
       (stands-append s _ _ _ _ _ nodes-stand
-      (stands-append s _ _ _ _ _ (stands-one s (taskSection (nodeCount s)))
+      (stands-append s _ _ _ _ _ (stands-one s (taskSection v p))
       (stands-append s _ _ _ _ _ tasks-stand
-      (stands-append s _ _ _ _ _ (stands-one s (linkSection (nodeCount s) (taskCount s))) links-stand))))
+      (stands-append s _ _ _ _ _ (stands-one s (linkSection v p n)) links-stand))))
 
   pub job-stands : Stands s 0 (jobNumbers (jobAt s)) (length s)
   unfolding jobAt

@@ -1,12 +1,14 @@
 pub mod PutLaws
 pub mod WriteLaws
 pub mod Segments
+pub mod HeldLaws
 pub mod FileNumbers
 pub mod SameNumbers
 pub mod RoundTrip
 pub mod ReadWrite
 pub mod WordLaws
 pub mod SoundReads
+pub mod SameFields
 pub mod SoundWrites
 pub mod LongestJob
 pub mod WriteFits

@@ -1,13 +1,18 @@
 -- Laws of bytes and numbers put into a buffer: one behind the other, and a loop that puts rows.
-use Prim.Native.Nat.{ℕ, zero, suc, _+_, _*_, _≤_}
-use mathlib.Core.Path.{_≡_, refl, sym, ap, _∙_}
+use Prim.Native.Nat.{ℕ, zero, suc, _+_, _*_, _≤_, _<_, min}
+use mathlib.Core.Path.{_≡_, refl, sym, ap, _∙_, subst}
+use mathlib.Core.Bool.{Bool, true, false}
 use mathlib.Core.List.{List, [], _∷_, _++_, append-assoc, append-nil}
 use lib.ListN.{length, set, take, drop, length-append, length-take, length-drop, take-append-drop, drop-of-length-le}
 use lib.Seq.{take-append-seam, take-all, length-take-le, drop-append-add, drop-drop, sets-eq}
 use native.Mathlib.Numerals.{add-one, add-two, add-three}
-use native.Mathlib.Nat.{add-zero, zero-add, suc-add, mul-add}
+use native.Mathlib.Nat.{add-zero, zero-add, suc-add, mul-le-mul-right}
 use native.Mathlib.Omega.{arith}
 use Rattle.reader.specs.Number.{bytes}
+use Rattle.reader.specs.Fields.{heldIf}
+use Rattle.reader.specs.Limits.{maxNodes, maxTasks, maxLinks, maxJobLength}
+use Rattle.reader.specs.JobFile.{jobLength}
+use Rattle.reader.proofs.LengthLaws.{job-length-most}
 use Rattle.writer.specs.Write.{splice, pack, flat}
 use Rattle.writer.specs.Puts.{Puts, Rows}
 
@@ -63,6 +68,15 @@ pub puts-one : (d e : List ℕ) (at v : ℕ) → at + 4 ≤ length d → e ≡ s
 unfolding pack
 puts-one d e at v h b = record { buffer = b; size = ap length b ∙ length-splice d (bytes v) at h; behind = refl }
 
+-- a field that the version has was put, and nothing where it lacks it
+pub puts-has : {d e : List ℕ} {at v k : ℕ} (b : Bool) → b ≡ true → Puts d at (v ∷ []) e k → Puts d at (heldIf b v []) e k
+unfolding heldIf
+puts-has b h p = rw h p
+
+pub puts-lacks : (d : List ℕ) (at v : ℕ) (b : Bool) → b ≡ false → Puts d at (heldIf b v []) d at
+unfolding heldIf pack
+puts-lacks d at v b h = rw h (record { buffer = sym (splice-none d at); size = refl; behind = omega arith })
+
 -- numbers behind numbers
 pub puts-then : {d a e b g : List ℕ} {at k m : ℕ} → Puts d at a e k → Puts e k b g m → Puts d at (a ++ b) g m
 puts-then {d} {a} {e} {b} {g} {at} {k} {m} p q = record {
@@ -73,9 +87,22 @@ puts-then {d} {a} {e} {b} {g} {at} {k} {m} p q = record {
   behind = omega (arith, length-append a b);
 }
 
+-- numbers behind such a field
+if-then : (b : Bool) (x : ℕ) (xs : List ℕ) → heldIf b x [] ++ xs ≡ heldIf b x xs
+unfolding heldIf
+if-then true x xs = refl
+if-then false x xs = refl
+
+pub puts-if : (b : Bool) (x : ℕ) {d e g xs : List ℕ} {at k m : ℕ} → Puts d at (heldIf b x []) e k → Puts e k xs g m → Puts d at (heldIf b x xs) g m
+puts-if b x {d} {e} {g} {xs} {at} {k} {m} p q = subst (λ vs. Puts d at vs g m) (if-then b x xs) (puts-then p q)
+
 -- the part of the buffer that a file was put into
 pub put-size : {d vs b : List ℕ} {n : ℕ} → Puts d 0 vs b n → n ≤ length d → n ≡ length (take n b)
 put-size {d} {vs} {b} {n} p h = sym (length-take-le n b (omega arith))
+
+-- how far numbers of a known width reach
+pub puts-end : {d vs e : List ℕ} {at k w : ℕ} → 4 * length vs ≡ w → Puts d at vs e k → k ≡ at + w
+puts-end h p = omega (arith, p .behind)
 
 -- a loop that puts rows: before it, and one turn
 pub rows-none : {row : ℕ → List ℕ} {w : ℕ} (d : List ℕ) (at : ℕ) → Rows row w d at 0 d at
@@ -90,5 +117,14 @@ pub rows-more : {row : ℕ → List ℕ} {w i : ℕ} {d e g : List ℕ} {at k m 
 unfolding flat
 rows-more {row} {w} {i} p q h = record {
   puts = rw add-one (puts-then (p .puts) q);
-  most = omega (arith, mul-add w i 1);
+  most = omega arith;
 }
+
+-- there is room for the next of n rows where there is room for all
+pub row-room : {row : ℕ → List ℕ} {w i : ℕ} {d e : List ℕ} {at k : ℕ} (n : ℕ) →
+    Rows row w d at i e k → i < n → at + n * w ≤ length d → k + w ≤ length e
+row-room {row} {w} {i} n p h room = omega (arith, p .most, p .puts .size, mul-le-mul-right w h)
+
+-- counts clipped to their arrays leave room for the longest job
+pub job-room : (v a b c : ℕ) {p n m : ℕ} → p ≡ min a maxNodes → n ≡ min b maxTasks → m ≡ min c maxLinks → jobLength v p n m ≤ maxJobLength
+job-room v a b c {p} {n} {m} hp hn hm = job-length-most v p (omega arith) n (omega arith) m (omega arith)

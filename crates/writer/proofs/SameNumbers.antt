@@ -1,30 +1,30 @@
 -- Two jobs, or two plans, of the same numbers are equal.
-use Prim.Native.Nat.{ℕ, zero, suc, _≤_, _<_, min}
-use native.Mathlib.Nat.{not-suc-le-zero}
+use Prim.Native.Nat.{ℕ, zero, suc, _*_, _≤_, _<_, min}
+use native.Mathlib.Nat.{not-suc-le-zero, min-eq-left}
 use native.Mathlib.Omega.{arith}
-use mathlib.Core.Path.{_≡_, refl, sym, ap, ap₂, _∙_}
+use mathlib.Core.Path.{_≡_, refl, sym, ap, ap₂, _∙_, subst}
 use mathlib.Core.List.{List, [], _∷_, _++_, append-assoc, append-nil}
 use lib.ListN.{length, getD, take, drop, length-append}
 use lib.Seq.{take-at, drop-at}
+use Rattle.reader.specs.declared.job.Node.{Node}
+use Rattle.reader.specs.declared.job.Task.{Task}
 use Rattle.reader.specs.declared.job.Link.{Link}
 use Rattle.reader.specs.declared.job.Job.{Job}
 use Rattle.reader.specs.declared.plan.Place.{Place}
 use Rattle.reader.specs.declared.plan.Plan.{Plan}
 use Rattle.reader.specs.Limits.{maxNodes, maxTasks, maxLinks}
-use Rattle.reader.specs.Entries.{nodes, tasks, links, link, place}
+use Rattle.reader.specs.Entries.{nodes, tasks, links, node, task, link, place}
+use Rattle.reader.specs.Fields.{nodeFields, taskFields, nodeValues, taskValues, width, held}
+use Rattle.reader.specs.JobFile.{nodeWidth, taskWidth}
 use Rattle.writer.specs.Equality.{SameJob, SamePlan}
 use Rattle.writer.specs.Write.{flat, nodeNumbers, taskNumbers, linkNumbers, placeNumbers, numbersOf, jobNumbers, planNumbers}
 use Rattle.reader.proofs.TestLaws.{below-suc}
+use Rattle.writer.proofs.HeldLaws.{held-width}
 
 -- rows that are equal part by part
 record Parts (n : ℕ) (f g : ℕ → List ℕ) (x y : List ℕ) : Type 0 where
   pub part : (i : ℕ) → i < n → f i ≡ g i
   pub rest : x ≡ y
-
-flat-length : (n : ℕ) (f g : ℕ → List ℕ) → ((i : ℕ) → length (f i) ≡ length (g i)) → length (flat n f) ≡ length (flat n g)
-unfolding flat
-flat-length zero f g h = refl
-flat-length (suc n) f g h = simp length-append (omega (arith, flat-length n f g h, h n))
 
 -- two lists cut at one length
 cut : (a b c d : List ℕ) → length a ≡ length c → a ++ b ≡ c ++ d → (a ≡ c) × (b ≡ d)
@@ -61,9 +61,42 @@ unfolding placeNumbers
 place-same x y e =
     ap (λ l. record { «primary_node» = getD l 0 0; «primary_start» = getD l 1 0; «backup_node» = getD l 2 0; «backup_start» = getD l 3 0 }) e
 
-task-length : (a b : Job) (p q j : ℕ) → p ≡ q → length (taskNumbers a p j) ≡ length (taskNumbers b q j)
+-- how many numbers an entry has
+ones : (n : ℕ) (f : ℕ → ℕ) → length (flat n (λ i. f i ∷ [])) ≡ n
+unfolding flat
+ones zero f = refl
+ones (suc n) f = simp length-append (omega (arith, ones n f))
+
+pub node-width : (v : ℕ) (x : Node) → 4 * length (nodeNumbers v x) ≡ nodeWidth v
+unfolding nodeNumbers nodeWidth nodeFields
+node-width v x = held-width v nodeFields (nodeValues x) refl
+
+pub fields-width : (v : ℕ) (x : Task) → 4 * length (held v taskFields (taskValues x)) ≡ width v taskFields
+unfolding taskFields
+fields-width v x = held-width v taskFields (taskValues x) refl
+
+pub task-width : (v p : ℕ) (x : Task) → 4 * length (taskNumbers v p x) ≡ taskWidth v p
+unfolding taskNumbers taskWidth
+task-width v p x = simp length-append (omega (arith, fields-width v x, ones p (λ i. getD (x .run) i 0)))
+
+node-length : (v w : ℕ) (a b : Node) → v ≡ w → length (nodeNumbers v a) ≡ length (nodeNumbers w b)
+node-length v w a b e = let h : nodeWidth v ≡ nodeWidth w = ap nodeWidth e in omega (arith, node-width v a, node-width w b)
+
+task-length : (v w p q : ℕ) (a b : Task) → v ≡ w → p ≡ q → length (taskNumbers v p a) ≡ length (taskNumbers w q b)
+task-length v w p q a b e f =
+    let h : taskWidth v p ≡ taskWidth w q = ap₂ taskWidth e f in
+    omega (arith, task-width v p a, task-width w q b)
+
+-- the fields of equal tasks, and their run times
+pub record SameTask (v p : ℕ) (a b : Task) : Type 0 where
+  pub fields : held v taskFields (taskValues a) ≡ held v taskFields (taskValues b)
+  pub run : (i : ℕ) → i < p → getD (a .run) i 0 ≡ getD (b .run) i 0
+
+pub task-parts : (v p : ℕ) (a b : Task) → taskNumbers v p a ≡ taskNumbers v p b → SameTask v p a b
 unfolding taskNumbers
-task-length a b p q j e = rw e (ap suc (flat-length q _ _ (λ i. refl)))
+task-parts v p a b e =
+    let k = cut (held v taskFields (taskValues a)) _ (held v taskFields (taskValues b)) _ (omega (arith, fields-width v a, fields-width v b)) e in
+    record { fields = k .0; run = λ i l. heads _ _ _ _ (all-parts p p _ _ refl (λ i. refl) (k .1) i l) .0 }
 
 pub plan-same : (a b : Plan) → a .«task_count» ≤ maxTasks → planNumbers a ≡ planNumbers b → SamePlan a b
 unfolding planNumbers placeNumbers
@@ -78,24 +111,27 @@ plan-same a b m e =
     }
 
 pub job-same : (a b : Job) → nodes a ≤ maxNodes → tasks a ≤ maxTasks → links a ≤ maxLinks → jobNumbers a ≡ jobNumbers b → SameJob a b
-unfolding jobNumbers numbersOf nodeNumbers taskNumbers linkNumbers
+unfolding jobNumbers numbersOf linkNumbers
 job-same a b hp hn hm e =
     let v = heads _ _ _ _ e in
     let c = heads _ _ _ _ (v .1) in
     let p : min (nodes a) maxNodes ≡ min (nodes b) maxNodes = ap (λ k. min k maxNodes) (c .0) in
-    let d = parts _ _ (nodeNumbers a) (nodeNumbers b) _ _ p (λ i. refl) (c .1) in
+    let d = parts _ _ (λ i. nodeNumbers (a .version) (node a i)) (λ i. nodeNumbers (b .version) (node b i)) _ _ p
+    (λ i. node-length _ _ (node a i) (node b i) (v .0)) (c .1) in
     let f = heads _ _ _ _ (d .rest) in
     let n : min (tasks a) maxTasks ≡ min (tasks b) maxTasks = ap (λ k. min k maxTasks) (f .0) in
-    let t = parts _ _ (taskNumbers a (min (nodes a) maxNodes)) (taskNumbers b (min (nodes b) maxNodes)) _ _ n (λ j. task-length a b _ _ j p) (f .1) in
+    let t = parts _ _ (λ j. taskNumbers (a .version) (min (nodes a) maxNodes) (task a j))
+    (λ j. taskNumbers (b .version) (min (nodes b) maxNodes) (task b j)) _ _ n (λ j. task-length _ _ _ _ (task a j) (task b j) (v .0) p) (f .1) in
     let g = heads _ _ _ _ (t .rest) in
     let m : min (links a) maxLinks ≡ min (links b) maxLinks = ap (λ k. min k maxLinks) (g .0) in
     record {
       version = v .0;
       node-count = c .0;
-      same-detect = λ i l. heads _ _ _ _ (d .part i (omega arith)) .0;
+      same-node = λ i l. d .part i (omega arith) ∙ sym (ap (λ w. nodeNumbers w (node b i)) (v .0));
       task-count = f .0;
-      same-deadline = λ j l. heads _ _ _ _ (t .part j (omega arith)) .0;
-      same-run = λ j i l k. heads _ _ _ _ (all-parts _ _ _ _ p (λ i. refl) (heads _ _ _ _ (t .part j (omega arith)) .1) i (omega arith)) .0;
+      same-task = λ j l.
+          subst (λ q. taskNumbers (a .version) q (task a j) ≡ taskNumbers (a .version) q (task b j)) (min-eq-left hp)
+          (t .part j (omega arith) ∙ sym (ap₂ (λ w q. taskNumbers w q (task b j)) (v .0) p));
       link-count = g .0;
       same-link = λ k l. link-same _ _ (all-parts _ _ _ _ m (λ i. refl) (g .1) k (omega arith));
     }
@@ -106,13 +142,22 @@ unfolding flat
 flat-same zero f g h = refl
 flat-same (suc n) f g h = ap₂ (λ x y. x ++ y) (flat-same n f g (λ i p. h i (omega arith))) (h n (omega arith))
 
+-- the same with fewer run times
+fewer : (v p q : ℕ) (a b : Task) → q ≤ p → taskNumbers v p a ≡ taskNumbers v p b → taskNumbers v q a ≡ taskNumbers v q b
+unfolding taskNumbers
+fewer v p q a b h e =
+    let k = task-parts v p a b e in
+    ap₂ (λ x y. x ++ y) (k .fields) (flat-same q _ _ (λ i l. ap (λ x. x ∷ []) (k .run i (omega arith))))
+
 entries-same : (a b : Job) (p n m : ℕ) → p ≤ nodes a → n ≤ tasks a → m ≤ links a → SameJob a b → numbersOf a p n m ≡ numbersOf b p n m
-unfolding numbersOf nodeNumbers taskNumbers
+unfolding numbersOf
 entries-same a b p n m hp hn hm e =
-    let d : flat p (nodeNumbers a) ≡ flat p (nodeNumbers b) = flat-same p _ _ (λ i l. ap (λ v. v ∷ []) (e .same-detect i (omega arith))) in
-    let t : flat n (taskNumbers a p) ≡ flat n (taskNumbers b p) =
-    flat-same n _ _ (λ j l. ap₂ (λ v vs. v ∷ vs) (e .same-deadline j (omega arith)) (flat-same p _ _ (λ i k. ap (λ v. v ∷ []) (e .same-run j i (omega arith) (omega arith))))) in
-    let l : flat m (λ k. linkNumbers (link a k)) ≡ flat m (λ k. linkNumbers (link b k)) = flat-same m _ _ (λ k q. ap linkNumbers (e .same-link k (omega arith))) in
+    let d : flat p (λ i. nodeNumbers (a .version) (node a i)) ≡ flat p (λ i. nodeNumbers (b .version) (node b i)) =
+    flat-same p _ _ (λ i l. e .same-node i (omega arith) ∙ ap (λ v. nodeNumbers v (node b i)) (e .version)) in
+    let t : flat n (λ j. taskNumbers (a .version) p (task a j)) ≡ flat n (λ j. taskNumbers (b .version) p (task b j)) =
+    flat-same n _ _ (λ j l. fewer _ _ p _ _ hp (e .same-task j (omega arith)) ∙ ap (λ v. taskNumbers v p (task b j)) (e .version)) in
+    let l : flat m (λ k. linkNumbers (link a k)) ≡ flat m (λ k. linkNumbers (link b k)) =
+    flat-same m _ _ (λ k q. ap linkNumbers (e .same-link k (omega arith))) in
     ap₂ (λ x y. x ++ y) (ap₂ (λ v w. v ∷ w ∷ []) (e .version) (e .node-count))
     (ap₂ (λ x y. x ++ y) d (ap₂ (λ v x. v ∷ x) (e .task-count) (ap₂ (λ x y. x ++ y) t (ap₂ (λ v x. v ∷ x) (e .link-count) l))))
 

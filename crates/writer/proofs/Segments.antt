@@ -23,6 +23,10 @@ pub stands-two : (s : List ℕ) (a : ℕ) → Stands s a (numberAt s a ∷ numbe
 unfolding Stands
 stands-two s a = (refl, (refl, refl))
 
+pub stands-last : (s : List ℕ) (v a : ℕ) → v ≡ numberAt s a → Stands s a (v ∷ []) (a + 4)
+unfolding Stands
+stands-last s v a e = (e, refl)
+
 pub stands-append : (s vs ws : List ℕ) (a b c : ℕ) → Stands s a vs b → Stands s b ws c → Stands s a (vs ++ ws) c
 unfolding Stands
 stands-append s [] ws a b c h k = rw h k
@@ -36,7 +40,7 @@ stands-flat s at w f zero a e step h = e
 stands-flat s at w f (suc n) a e step h =
     stands-append s (flat n f) (f n) a (at n) (at (suc n)) (stands-flat s at w f n a e step (λ i p. h i (omega arith))) (rw (step n) at (h n (omega arith)))
 
-stands-le : (s vs : List ℕ) (a b : ℕ) → Stands s a vs b → a ≤ b
+pub stands-le : (s vs : List ℕ) (a b : ℕ) → Stands s a vs b → a ≤ b
 unfolding Stands
 stands-le s [] a b h = omega arith
 stands-le s (v ∷ vs) a b h = omega (arith, stands-le s vs (a + 4) b (h .1))

@@ -7,32 +7,52 @@ use mathlib.Core.Bool.{true}
 use mathlib.Core.List.{List, [], _∷_, append-nil}
 use mathlib.Core.Option.{none}
 use lib.Dec.{ltb}
-use lib.ListN.{length, length-append}
-use borrow.Author.Tests.{ltb-false, lt-ltb, eq-eqb}
+use lib.ListN.{length, getD}
+use borrow.Author.Tests.{leb-false, ltb-false, lt-ltb, eq-eqb}
+use Rattle.reader.specs.declared.job.Node.{Node}
+use Rattle.reader.specs.declared.job.Task.{Task}
 use Rattle.reader.specs.declared.job.Link.{Link}
 use Rattle.reader.specs.declared.job.Job.{Job}
 use Rattle.reader.specs.declared.plan.Place.{Place}
 use Rattle.reader.specs.declared.plan.Plan.{Plan}
-use Rattle.reader.specs.Limits.{fileVersion, maxDetect, minDeadline, maxTasks, maxTime}
-use Rattle.reader.specs.Entries.{noLink, nodes, tasks, links, task, run, link, place}
+use Rattle.reader.specs.Limits.{firstVersion, newestVersion, readySince, maxTasks, maxTime}
+use Rattle.reader.specs.Entries.{noLink, nodes, tasks, links, node, task, link, place}
 use Rattle.reader.specs.Sound.{below, Sound, PlanSound}
 use Rattle.reader.specs.Number.{numberAt}
-use Rattle.reader.specs.JobFile.{taskSection, linkSection, jobLength, nodeCount, linkAt, linkBefore, jobFault}
+use Rattle.reader.specs.JobFile.{jobVersion, nodeWidth, taskWidth, taskSection, linkSection, jobLength, nodeCount, linkAt, linkBefore, jobFault}
+use Rattle.reader.specs.Fields.{nodeFields, taskFields, nodeValues, taskValues, reaches, width, held}
 use Rattle.reader.specs.PlanFile.{placeAt, planFault}
 use Rattle.writer.specs.Write.{flat, nodeNumbers, taskNumbers, linkNumbers, placeNumbers, numbersOf, jobNumbers, jobBytes, planNumbers, planBytes}
-use Rattle.reader.proofs.TestLaws.{split, or-l, or-r, and-i}
+use Rattle.reader.proofs.TestLaws.{split, clash, or-l, or-r, and-i}
 use Rattle.reader.proofs.FieldLaws.{Good}
+use Rattle.reader.proofs.VersionLaws.{AllWithin, GoodFields}
 use Rattle.reader.proofs.Accepted.{GoodNodes, GoodTask, GoodTasks, GoodLink, GoodLinks, GoodJob, GoodPlace, GoodPlan}
 use Rattle.reader.proofs.Promise.{SoundTask, SoundLink, SoundPlace}
 use Rattle.writer.proofs.Segments.{Stands, stands-same, stands-split, stands-rows, stands-end, stands-at, pack-stands}
 use Rattle.writer.proofs.FileNumbers.{link-stands, place-stands, job-numbers}
-use Rattle.writer.proofs.SameNumbers.{link-same, place-same}
+use Rattle.writer.proofs.HeldLaws.{held-good}
+use Rattle.writer.proofs.SameNumbers.{link-same, place-same, node-width, fields-width, task-width}
 use Rattle.writer.proofs.WordLaws.{job-words, plan-words}
 use Rattle.reader.proofs.Faultless.{good-job, good-plan}
 
 -- the entries of a sound job and of a sound plan
-task-of : (job : Job) → Sound job → (j : ℕ) → j < tasks job → SoundTask (nodes job) (task job j)
-task-of job h j p = record { least = h .deadline-least j p; most = h .deadline-most j p; run = λ i l. h .run-most j i p l }
+pub node-of : (job : Job) → Sound job → (i : ℕ) → i < nodes job → AllWithin (job .version) nodeFields (nodeValues (node job i))
+unfolding AllWithin nodeFields reaches
+node-of job h i p = (record { least = λ _. omega arith; most = λ _. h .detect-most i p; lacks = λ e. clash true refl e }, refl)
+
+pub task-of : (job : Job) → Sound job → (j : ℕ) → j < tasks job → SoundTask (job .version) (nodes job) (task job j)
+unfolding AllWithin taskFields reaches
+task-of job h j p = record {
+  fields = (
+    record {
+      least = λ _. omega arith;
+      most = λ _. h .ready-most j p;
+      lacks = λ e. h .ready-lacks j p (leb-false readySince (job .version) e);
+    },
+    (record { least = λ _. h .deadline-least j p; most = λ _. h .deadline-most j p; lacks = λ e. clash true refl e }, refl),
+  );
+  run = λ i l. h .run-most j i p l;
+}
 
 link-of : (job : Job) → Sound job → (k : ℕ) → k < links job → SoundLink (tasks job) (link job k)
 link-of job h k p = record { rise = h .rise k p; into = h .into k p; delay = h .delay-most k p }
@@ -60,16 +80,25 @@ module _ (s : List ℕ) where
       → Good s at low high
   head-in v vs at b low high h l m r = omega (arith, stands-at s (v ∷ vs) at b h 0 at (omega arith) (omega arith))
 
-  task-in : (job : Job) (at p j : ℕ) → Stands s at (taskNumbers job p j) (at + (4 + 4 * p)) → at + (4 + 4 * p) ≤ length s
-      → SoundTask p (task job j) → GoodTask s at p
-  unfolding taskNumbers
-  task-in job at p j h m g =
-      let r = stands-split s (_ ∷ []) _ at (at + (4 + 4 * p)) h in
-      let runs = stands-rows s (at + 4) 4 (λ i. run job j i ∷ []) p [] (at + (4 + 4 * p)) (λ i. refl) (rw append-nil (r .1)) in
+  node-in : (v at : ℕ) (x : Node) → Stands s at (nodeNumbers v x) (at + nodeWidth v) → at + nodeWidth v ≤ length s
+      → AllWithin v nodeFields (nodeValues x) → GoodFields v s at nodeFields
+  unfolding nodeNumbers
+  node-in v at x h m g = held-good v nodeFields (nodeValues x) s at _ g h m
+
+  task-in : (v at p : ℕ) (x : Task) → Stands s at (taskNumbers v p x) (at + taskWidth v p) → at + taskWidth v p ≤ length s
+      → SoundTask v p x → GoodTask v s at p
+  unfolding taskNumbers taskWidth
+  task-in v at p x h m g =
+      let end = at + (width v taskFields + 4 * p) in
+      let behind = at + width v taskFields in
+      let fields = held v taskFields (taskValues x) in
+      let run = flat p (λ i. getD (x .run) i 0 ∷ []) in
+      let k = stands-split s fields run at end h in
+      let z : at + 4 * length fields ≡ behind = omega (arith, fields-width v x) in
+      let runs = stands-rows s behind 4 (λ i. getD (x .run) i 0 ∷ []) p [] end (λ i. refl) (rw append-nil (rw z at (k .1))) in
       record {
-        deadline = head-in _ _ at _ minDeadline maxTime h (g .least) (g .most) (omega arith);
-        run = λ i l. head-in _ _ (at + 4 + 4 * i) _ 0 maxTime (runs .row i l) (omega arith) (g .run i l) (omega arith);
-        room = m;
+        fields = held-good v taskFields (taskValues x) s at behind (g .fields) (rw z at (k .0)) (omega arith);
+        run = λ i l. head-in _ _ (behind + 4 * i) _ 0 maxTime (runs .row i l) (omega arith) (g .run i l) (omega arith);
       }
 
   link-in : (at n : ℕ) (l before : Link) → Stands s at (linkNumbers l) (at + 12) → at + 12 ≤ length s → SoundLink n l → below before l ≡ true →
@@ -112,106 +141,121 @@ module _ (s : List ℕ) where
       }
 
 -- a job's numbers in a file, section by section
-record Holds (s : List ℕ) (job : Job) : Type 0 where
-  pub version : job .version ≡ numberAt s 0
-  pub node-count : nodes job ≡ nodeCount s
-  pub node-stands : (i : ℕ) → i < nodes job → Stands s (8 + 4 * i) (nodeNumbers job i) (8 + 4 * i + 4)
-  pub task-count : tasks job ≡ numberAt s (taskSection (nodes job))
-  pub task-stands : (j : ℕ) → j < tasks job →
-      Stands s (taskSection (nodes job) + 4 + (4 + 4 * nodes job) * j) (taskNumbers job (nodes job) j)
-      (taskSection (nodes job) + 4 + (4 + 4 * nodes job) * j + (4 + 4 * nodes job))
-  pub link-count : links job ≡ numberAt s (linkSection (nodes job) (tasks job))
+record Holds (s : List ℕ) (job : Job) (v p n : ℕ) : Type 0 where
+  pub version : v ≡ jobVersion s
+  pub node-count : p ≡ nodeCount s
+  pub node-stands : (i : ℕ) → i < p → Stands s (8 + nodeWidth v * i) (nodeNumbers v (node job i)) (8 + nodeWidth v * i + nodeWidth v)
+  pub task-count : n ≡ numberAt s (taskSection v p)
+  pub task-stands : (j : ℕ) → j < n →
+      Stands s (taskSection v p + 4 + taskWidth v p * j) (taskNumbers v p (task job j)) (taskSection v p + 4 + taskWidth v p * j + taskWidth v p)
+  pub link-count : links job ≡ numberAt s (linkSection v p n)
   pub links-stand : (k : ℕ) → k < links job →
-      Stands s (linkSection (nodes job) (tasks job) + 4 + 12 * k) (linkNumbers (link job k)) (linkSection (nodes job) (tasks job) + 4 + 12 * k + 12)
-  pub end : jobLength (nodes job) (tasks job) (links job) ≡ length s
+      Stands s (linkSection v p n + 4 + 12 * k) (linkNumbers (link job k)) (linkSection v p n + 4 + 12 * k + 12)
+  pub end : jobLength v p n (links job) ≡ length s
 
-ones : (n : ℕ) (f : ℕ → ℕ) → length (flat n (λ i. f i ∷ [])) ≡ n
-unfolding flat
-ones zero f = refl
-ones (suc n) f = simp length-append (omega (arith, ones n f))
+abbrev HoldsJob : List ℕ → Job → Type 0
+HoldsJob s job = Holds s job (job .version) (nodes job) (tasks job)
 
-task-width : (job : Job) (p j : ℕ) → 4 * length (taskNumbers job p j) ≡ 4 + 4 * p
-unfolding taskNumbers
-task-width job p j = omega (arith, ones p (λ i. run job j i))
-
-holds : (s : List ℕ) (job : Job) → Stands s 0 (numbersOf job (nodes job) (tasks job) (links job)) (length s) → Holds s job
-unfolding numbersOf nodeNumbers linkNumbers
+holds : (s : List ℕ) (job : Job) → Stands s 0 (numbersOf job (nodes job) (tasks job) (links job)) (length s) → HoldsJob s job
+unfolding numbersOf linkNumbers
 holds s job st =
+    let v = job .version in
     let p = nodes job in
     let n = tasks job in
-    let vs = job .version ∷ p ∷ [] in
+    let vs = v ∷ p ∷ [] in
     let head = stands-split s vs _ 0 (length s) st in
-    let node = stands-rows s 8 4 (nodeNumbers job) p _ (length s) (λ i. refl) (head .1) in
-    let count = stands-split s (n ∷ []) _ (8 + 4 * p) (length s) (node .rest) in
-    let tasks = stands-rows s (8 + 4 * p + 4) (4 + 4 * p) (taskNumbers job p) n _ (length s) (λ j. task-width job p j) (count .1) in
-    let z : 8 + 4 * p + 4 + (4 + 4 * p) * n ≡ linkSection p n = omega arith in
-    let last = stands-split s (links job ∷ []) _ (linkSection p n) (length s) (rw z at (tasks .rest)) in
-    let rows = stands-rows s (linkSection p n + 4) 12 (λ k. linkNumbers (link job k)) (links job) [] (length s) (λ k. refl) (rw append-nil (last .1)) in
+    let node = stands-rows s 8 (nodeWidth v) (λ i. nodeNumbers v (node job i)) p _ (length s) (λ i. node-width v (node job i)) (head .1) in
+    let y : 8 + nodeWidth v * p ≡ taskSection v p = omega (arith, mul-comm (nodeWidth v) p) in
+    let count = stands-split s (n ∷ []) _ (taskSection v p) (length s) (rw y at (node .rest)) in
+    let tasks = stands-rows s (taskSection v p + 4) (taskWidth v p) (λ j. taskNumbers v p (task job j)) n _ (length s)
+    (λ j. task-width v p (task job j)) (count .1) in
+    let z : taskSection v p + 4 + taskWidth v p * n ≡ linkSection v p n = omega (arith, mul-comm (taskWidth v p) n) in
+    let last = stands-split s (links job ∷ []) _ (linkSection v p n) (length s) (rw z at (tasks .rest)) in
+    let rows = stands-rows s (linkSection v p n + 4) 12 (λ k. linkNumbers (link job k)) (links job) [] (length s) (λ k. refl) (rw append-nil (last .1)) in
     record {
       version = stands-at s vs 0 8 (head .0) 0 0 (omega arith) (omega arith);
       node-count = stands-at s vs 0 8 (head .0) 1 4 (omega arith) (omega arith);
       node-stands = node .row;
-      task-count = stands-at s (n ∷ []) (8 + 4 * p) _ (count .0) 0 _ (omega arith) (omega arith);
+      task-count = stands-at s (n ∷ []) (taskSection v p) _ (count .0) 0 _ (omega arith) (omega arith);
       task-stands = tasks .row;
-      link-count = stands-at s (links job ∷ []) (linkSection p n) _ (last .0) 0 _ (omega arith) (omega arith);
+      link-count = stands-at s (links job ∷ []) (linkSection v p n) _ (last .0) 0 _ (omega arith) (omega arith);
       links-stand = rows .row;
       end = stands-end s _ _ (rows .rest);
     }
 
-module _ (s : List ℕ) (job : Job) (h : Sound job) (d : Holds s job) where
-  nodes-in : GoodNodes s
-  unfolding nodeNumbers
+module _ (s : List ℕ) (job : Job) (h : Sound job) (d : HoldsJob s job) where
+  abbrev v : ℕ
+  v = job .version
+
+  abbrev p : ℕ
+  p = nodes job
+
+  abbrev n : ℕ
+  n = tasks job
+
+  nodes-within : (i : ℕ) → i < p → 8 + nodeWidth v * i + nodeWidth v ≤ length s
+  nodes-within i l = omega (arith, d .end, mul-le-mul-right (nodeWidth v) l, mul-comm (nodeWidth v) i)
+
+  nodes-in : GoodNodes v s
   nodes-in = record {
     count = omega (arith, d .node-count, h .nodes-least, h .nodes-most, d .end);
-    detect = λ i p.
-        let l : i < nodes job = omega (arith, d .node-count) in
-        head-in s _ _ (8 + 4 * i) _ 0 maxDetect (d .node-stands i l) (omega arith) (h .detect-most i l) (omega (arith, d .end));
-    room = omega (arith, d .node-count, d .end);
+    entry = λ i q.
+        let l : i < p = omega (arith, d .node-count) in
+        subst (λ x. GoodFields v s (8 + x) nodeFields) (mul-comm (nodeWidth v) i)
+        (node-in s v _ (node job i) (d .node-stands i l) (nodes-within i l) (node-of job h i l));
+    room = subst (λ p. taskSection v p ≤ length s) (d .node-count) (omega (arith, d .end));
   }
 
-  rows-within : (j : ℕ) → j < tasks job → taskSection (nodes job) + 4 + (4 + 4 * nodes job) * j + (4 + 4 * nodes job) ≤ length s
-  rows-within j p = omega (arith, d .end, mul-le-mul-right (4 + 4 * nodes job) p)
+  tasks-within : (j : ℕ) → j < n → taskSection v p + 4 + taskWidth v p * j + taskWidth v p ≤ length s
+  tasks-within j l = omega (arith, d .end, mul-le-mul-right (taskWidth v p) l, mul-comm (taskWidth v p) j)
 
-  tasks-in : GoodTasks s (taskSection (nodes job)) (nodes job)
+  tasks-in : GoodTasks v s (taskSection v p) p
   tasks-in = record {
     count = omega (arith, d .task-count, h .tasks-least, h .tasks-most, d .end);
-    task = λ j p.
-        let l : j < tasks job = omega (arith, d .task-count) in
-        subst (λ x. GoodTask s (taskSection (nodes job) + 4 + x) (nodes job)) (mul-comm (4 + 4 * nodes job) j)
-        (task-in s job _ (nodes job) j (d .task-stands j l) (rows-within j l) (task-of job h j l));
-    room = subst (λ n. taskSection (nodes job) + 4 + n * (4 + 4 * nodes job) ≤ length s) (d .task-count) (omega (arith, d .end));
+    task = λ j q.
+        let l : j < n = omega (arith, d .task-count) in
+        subst (λ x. GoodTask v s (taskSection v p + 4 + x) p) (mul-comm (taskWidth v p) j)
+        (task-in s v _ p (task job j) (d .task-stands j l) (tasks-within j l) (task-of job h j l));
+    room = subst (λ n. taskSection v p + 4 + n * taskWidth v p ≤ length s) (d .task-count) (omega (arith, d .end));
   }
 
-  link-is : (k : ℕ) → k < links job → linkAt s (linkSection (nodes job) (tasks job) + 4 + 12 * k) ≡ link job k
-  link-is k p = link-same _ _ (stands-same s _ _ _ _ (link-stands s _) (d .links-stand k p))
+  link-is : (k : ℕ) → k < links job → linkAt s (linkSection v p n + 4 + 12 * k) ≡ link job k
+  link-is k l = link-same _ _ (stands-same s _ _ _ _ (link-stands s _) (d .links-stand k l))
 
-  order-in : (k : ℕ) → k < links job → below (linkBefore s (linkSection (nodes job) (tasks job) + 4) k) (link job k) ≡ true
+  order-in : (k : ℕ) → k < links job → below (linkBefore s (linkSection v p n + 4) k) (link job k) ≡ true
   unfolding linkBefore
-  order-in zero p = first-above (link job 0) (h .rise 0 p)
-  order-in (suc k) p = rw (link-is k (omega arith)) (h .order k p)
+  order-in zero l = first-above (link job 0) (h .rise 0 l)
+  order-in (suc k) l = rw (link-is k (omega arith)) (h .order k l)
 
-  links-in : GoodLinks s (linkSection (nodes job) (tasks job)) (tasks job)
+  links-in : GoodLinks s (linkSection v p n) n
   links-in = record {
     count = omega (arith, d .link-count, h .links-most, d .end);
-    link = λ k p.
+    link = λ k q.
         let l : k < links job = omega (arith, d .link-count) in
-        link-in s _ (tasks job) (link job k) _ (d .links-stand k l) (omega (arith, d .end)) (link-of job h k l) (order-in k l);
+        link-in s _ n (link job k) _ (d .links-stand k l) (omega (arith, d .end)) (link-of job h k l) (order-in k l);
     room = omega (arith, d .link-count, d .end);
   }
 
--- the counts, where they stand
-job-of : (s : List ℕ) (p n m : ℕ) → p ≡ nodeCount s → n ≡ numberAt s (taskSection p) → m ≡ numberAt s (linkSection p n) →
-    Good s 0 fileVersion fileVersion → GoodNodes s →
-    GoodTasks s (taskSection p) p → GoodLinks s (linkSection p n) n → length s ≤ jobLength p n m → GoodJob s
-job-of s p n m ep en em v a b c e = record { version = v; nodes = a; tasks = rw ep at b; links = rw (en, ep) at c; most = rw (em, en, ep) at e }
+-- the version and the counts, where they stand
+job-of : (s : List ℕ) (v p n m : ℕ) → v ≡ jobVersion s → p ≡ nodeCount s → n ≡ numberAt s (taskSection v p) → m ≡ numberAt s (linkSection v p n) →
+    Good s 0 firstVersion newestVersion → GoodNodes v s →
+    GoodTasks v s (taskSection v p) p → GoodLinks s (linkSection v p n) n → length s ≤ jobLength v p n m → GoodJob s
+job-of s v p n m ev ep en em h a b c e = record {
+  version = h;
+  nodes = rw ev at a;
+  tasks = rw (ep, ev) at b;
+  links = rw (en, ep, ev) at c;
+  most = rw (em, en, ep, ev) at e;
+}
 
-job-in : (s : List ℕ) (job : Job) → Sound job → Holds s job → GoodJob s
+job-in : (s : List ℕ) (job : Job) → Sound job → HoldsJob s job → GoodJob s
 job-in s job h d =
-    job-of s (nodes job) (tasks job) (links job) (d .node-count) (d .task-count) (d .link-count) (omega (arith, h .version, d .version, d .end))
+    job-of s (job .version) (nodes job) (tasks job) (links job) (d .version) (d .node-count) (d .task-count) (d .link-count)
+    (omega (arith, h .version-least, h .version-most, d .version, d .end))
     (nodes-in s job h d) (tasks-in s job h d) (links-in s job h d) (omega (arith, d .end))
 
 module _ (job : Job) (h : Sound job) where
-  job-holds : Holds (jobBytes job) job
+  job-holds : HoldsJob (jobBytes job) job
   unfolding jobBytes
   job-holds =
       let s = jobBytes job in
@@ -221,7 +265,10 @@ module _ (job : Job) (h : Sound job) where
   pub sound-job-reads : jobFault (jobBytes job) ≡ none
   sound-job-reads = good-job _ (job-in _ job h job-holds)
 
-  pub sound-job-length : jobLength (nodes job) (tasks job) (links job) ≡ length (jobBytes job)
+  pub sound-job-version : job .version ≡ jobVersion (jobBytes job)
+  sound-job-version = job-holds .version
+
+  pub sound-job-length : jobLength (job .version) (nodes job) (tasks job) (links job) ≡ length (jobBytes job)
   sound-job-length = job-holds .end
 
 pub sound-plan-reads : (job : Job) (plan : Plan) → Sound job → PlanSound job plan → planFault (planBytes plan) job ≡ none

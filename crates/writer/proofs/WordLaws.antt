@@ -4,10 +4,11 @@ use native.Mathlib.Omega.{arith}
 use mathlib.Core.List.{List, [], _∷_, _++_}
 use Rattle.reader.specs.declared.job.Job.{Job}
 use Rattle.reader.specs.declared.plan.Plan.{Plan}
-use Rattle.reader.specs.Entries.{nodes, tasks, links, link, place}
+use Rattle.reader.specs.Entries.{nodes, tasks, links, node, task, link, place}
 use Rattle.reader.specs.Sound.{Sound, PlanSound}
 use Rattle.writer.specs.Write.{flat, nodeNumbers, taskNumbers, linkNumbers, placeNumbers, numbersOf, jobNumbers, planNumbers}
 use Rattle.reader.specs.Number.{Words}
+use Rattle.writer.proofs.HeldLaws.{held-words}
 
 words-none : Words []
 unfolding Words
@@ -33,14 +34,14 @@ words-one : (v : ℕ) → v < 2 ^ 32 → Words (v ∷ [])
 words-one v h = words-more v [] h words-none
 
 module _ (job : Job) (h : Sound job) where
-  nodes-words : (i : ℕ) → i < nodes job → Words (nodeNumbers job i)
+  node-words : (v i : ℕ) → i < nodes job → Words (nodeNumbers v (node job i))
   unfolding nodeNumbers
-  nodes-words i p = words-one _ (omega (arith, h .detect-most i p))
+  node-words v i p = held-words v _ _ (words-one _ (omega (arith, h .detect-most i p)))
 
-  task-words : (p j : ℕ) → p ≤ nodes job → j < tasks job → Words (taskNumbers job p j)
+  task-words : (v p j : ℕ) → p ≤ nodes job → j < tasks job → Words (taskNumbers v p (task job j))
   unfolding taskNumbers
-  task-words p j m l =
-      words-more _ _ (omega (arith, h .deadline-most j l))
+  task-words v p j m l =
+      words-append _ _ (held-words v _ _ (words-more _ _ (omega (arith, h .ready-most j l)) (words-one _ (omega (arith, h .deadline-most j l)))))
       (words-flat p _ (λ i k. words-one _ (omega (arith, h .run-most j i l (omega arith)))))
 
   link-words : (k : ℕ) → k < links job → Words (linkNumbers (link job k))
@@ -53,10 +54,10 @@ module _ (job : Job) (h : Sound job) where
   pub job-words : Words (jobNumbers job)
   unfolding jobNumbers numbersOf
   job-words =
-      words-more _ _ (omega (arith, h .version)) (words-more _ _ (omega (arith, h .nodes-most))
-      (words-append _ _ (words-flat _ _ (λ i p. nodes-words i (omega arith)))
+      words-more _ _ (omega (arith, h .version-most)) (words-more _ _ (omega (arith, h .nodes-most))
+      (words-append _ _ (words-flat _ _ (λ i p. node-words _ i (omega arith)))
       (words-more _ _ (omega (arith, h .tasks-most))
-      (words-append _ _ (words-flat _ _ (λ j p. task-words _ j (omega arith) (omega arith)))
+      (words-append _ _ (words-flat _ _ (λ j p. task-words _ _ j (omega arith) (omega arith)))
       (words-more _ _ (omega (arith, h .links-most)) (words-flat _ _ (λ k p. link-words k (omega arith))))))))
 
   place-words : (plan : Plan) → PlanSound job plan → (j : ℕ) → j < tasks job → Words (placeNumbers (place plan j))

@@ -14,4 +14,4 @@ pub record Puts (before : List ℕ) (at : ℕ) (numbers after : List ℕ) (end :
 -- so do n rows of numbers, each of at most so many bytes
 pub record Rows (row : ℕ → List ℕ) (width : ℕ) (before : List ℕ) (at n : ℕ) (after : List ℕ) (end : ℕ) : Type 0 where
   pub puts : Puts before at (flat n row) after end
-  pub most : end ≤ at + width * n
+  pub most : end ≤ at + n * width

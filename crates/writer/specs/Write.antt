@@ -3,8 +3,10 @@ use Prim.Native.Nat.{ℕ, zero, suc, _+_, min}
 use mathlib.Core.List.{List, [], _∷_, _++_}
 use mathlib.Core.Option.{Option, none, some}
 use lib.Dec.{leb}
-use lib.ListN.{length, take, drop}
+use lib.ListN.{length, getD, take, drop}
 use Rattle.reader.specs.declared.job.Job.{Job}
+use Rattle.reader.specs.declared.job.Node.{Node}
+use Rattle.reader.specs.declared.job.Task.{Task}
 use Rattle.reader.specs.declared.job.Link.{Link}
 use Rattle.reader.specs.declared.plan.Place.{Place}
 use Rattle.reader.specs.declared.plan.Plan.{Plan}
@@ -14,8 +16,9 @@ use Rattle.reader.specs.declared.refusal.Answer.{Answer}
 use Rattle.reader.specs.declared.refusal.Answer.the-variants.{Done}
 use Rattle.reader.specs.First.{_or-else_, unless}
 use Rattle.reader.specs.Limits.{maxNodes, maxTasks, maxLinks}
-use Rattle.reader.specs.Entries.{nodes, tasks, links, detect, deadline, run, link, place}
+use Rattle.reader.specs.Entries.{nodes, tasks, links, node, task, link, place}
 use Rattle.reader.specs.Number.{bytes}
+use Rattle.reader.specs.Fields.{nodeFields, taskFields, nodeValues, taskValues, held}
 use Rattle.reader.specs.Refusals.{answered}
 use Rattle.reader.specs.JobFile.{jobFault, jobAt}
 use Rattle.reader.specs.PlanFile.{planFault}
@@ -34,12 +37,12 @@ unfoldable pub flat : ℕ → (ℕ → List ℕ) → List ℕ
 flat zero f = []
 flat (suc n) f = flat n f ++ f n
 
--- the numbers of a file's entries, of p nodes
-unfoldable pub nodeNumbers : Job → ℕ → List ℕ
-nodeNumbers job i = detect job i ∷ []
+-- the numbers of a file's entries, in version v and for p nodes
+unfoldable pub nodeNumbers : ℕ → Node → List ℕ
+nodeNumbers v x = held v nodeFields (nodeValues x)
 
-unfoldable pub taskNumbers : Job → ℕ → ℕ → List ℕ
-taskNumbers job p j = deadline job j ∷ flat p (λ i. run job j i ∷ [])
+unfoldable pub taskNumbers : ℕ → ℕ → Task → List ℕ
+taskNumbers v p x = held v taskFields (taskValues x) ++ flat p (λ i. getD (x .run) i 0 ∷ [])
 
 unfoldable pub linkNumbers : Link → List ℕ
 linkNumbers l = l .from ∷ l .to ∷ l .delay ∷ []
@@ -51,9 +54,9 @@ placeNumbers x = x .«primary_node» ∷ x .«primary_start» ∷ x .«backup_no
 unfoldable pub numbersOf : Job → ℕ → ℕ → ℕ → List ℕ
 numbersOf job p n m =
     (job .version ∷ nodes job ∷ [])
-    ++ (flat p (nodeNumbers job)
+    ++ (flat p (λ i. nodeNumbers (job .version) (node job i))
     ++ ((tasks job ∷ [])
-    ++ (flat n (taskNumbers job p)
+    ++ (flat n (λ j. taskNumbers (job .version) p (task job j))
     ++ ((links job ∷ [])
     ++ flat m (λ k. linkNumbers (link job k))))))
 

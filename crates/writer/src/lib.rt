@@ -15,8 +15,10 @@ ghost use Prim.Native.Nat.{_+_, _*_, _≤_, min};
 ghost use lib.ListN.{length, getD};
 ghost use Rattle.reader.specs.Limits.{maxNodes, maxTasks, maxLinks, maxJobLength, maxPlanLength};
 ghost use Rattle.reader.specs.Entries.{noNode, noTask, noLink, noPlace};
+ghost use Rattle.reader.specs.Fields.{widthIf, heldIf};
+ghost use Rattle.reader.specs.JobFile.{nodeWidth, taskWidth};
 ghost use Rattle.reader.specs.PlanFile.{planLength};
-ghost use Rattle.writer.specs.Write.{splice, flat, linkNumbers, placeNumbers, jobNumbers, planNumbers, roomFault, writes, writeJob, writePlan};
+ghost use Rattle.writer.specs.Write.{splice, nodeNumbers, taskNumbers, linkNumbers, placeNumbers, jobNumbers, planNumbers, roomFault, writes, writeJob, writePlan};
 ghost use Rattle.reader.specs.Number.{bytes};
 ghost use Rattle.writer.specs.Puts.{Puts, Rows};
 
@@ -48,16 +50,41 @@ fn put(d: &mut [u8], at: usize, v: u32) -> usize
     at + 4
 }
 
-// The first detect times, from an offset.
-fn put_nodes(d: &mut [u8], from: usize, count: usize, nodes: [Node; Job::MAX_NODES]) -> usize
-    requires { ⌜ (count ≤ maxNodes) × (from + 4 * count ≤ length (now d)) ⌝ }
-    ensures { λ r. ⌜ Rows (λ i. getD nodes i noNode .detect ∷ []) 4 (now (d .entry)) from count (now (d .exit)) r ⌝ }
+// A field that the version has; nothing where it lacks it.
+fn put_if(d: &mut [u8], at: usize, has: bool, v: u32) -> usize
+    requires { ⌜ at + widthIf has ≤ length (now d) ⌝ }
+    ensures { λ r. ⌜ Puts (now (d .entry)) at (heldIf has v []) (now (d .exit)) r ⌝ }
+{
+    if has {
+        return put(d, at, v);
+    }
+    at
+}
+
+// A node: its detect time, in every version.
+fn put_node(d: &mut [u8], at: usize, version: usize, node: Node) -> usize
+    requires { ⌜ at + nodeWidth version ≤ length (now d) ⌝ }
+    ensures { λ r. ⌜ Puts (now (d .entry)) at (nodeNumbers version node) (now (d .exit)) r ⌝ }
+{
+    put(d, at, node.detect)
+}
+
+// The first nodes, from an offset.
+fn put_nodes(
+    d: &mut [u8],
+    from: usize,
+    version: usize,
+    count: usize,
+    nodes: [Node; Job::MAX_NODES],
+) -> usize
+    requires { ⌜ (count ≤ maxNodes) × (from + count * nodeWidth version ≤ length (now d)) ⌝ }
+    ensures { λ r. ⌜ Rows (λ i. nodeNumbers version (getD nodes i noNode)) (nodeWidth version) (now (d .entry)) from count (now (d .exit)) r ⌝ }
 {
     let mut at = from;
     let mut i: usize = 0;
     while i < count {
         let node = nodes[i];
-        at = put(d, at, node.detect);
+        at = put_node(d, at, version, node);
         i += 1;
     }
     at
@@ -77,24 +104,34 @@ fn put_run(d: &mut [u8], from: usize, count: usize, run: [u32; Job::MAX_NODES]) 
     at
 }
 
-// The first tasks: of each its deadline, and its run time on each node.
+// A task: its ready time where the version has it, its deadline, and its run time on each node.
+fn put_task(d: &mut [u8], at: usize, version: usize, nodes: usize, task: Task) -> usize
+    requires { ⌜ (nodes ≤ maxNodes) × (at + taskWidth version nodes ≤ length (now d)) ⌝ }
+    ensures { λ r. ⌜ Puts (now (d .entry)) at (taskNumbers version nodes task) (now (d .exit)) r ⌝ }
+{
+    let run = task.run;
+    let then = put_if(d, at, Job::READY_SINCE <= version, task.ready);
+    let behind = put(d, then, task.deadline);
+    put_run(d, behind, nodes, run)
+}
+
+// The first tasks.
 fn put_tasks(
     d: &mut [u8],
     from: usize,
-    count: usize,
+    version: usize,
     nodes: usize,
+    count: usize,
     tasks: [Task; Job::MAX_TASKS],
 ) -> usize
-    requires { ⌜ (count ≤ maxTasks) × (nodes ≤ maxNodes) × (from + (4 + 4 * maxNodes) * count ≤ length (now d)) ⌝ }
-    ensures { λ r. ⌜ Rows (λ j. getD tasks j noTask .deadline ∷ flat nodes (λ i. getD (getD tasks j noTask .run) i 0 ∷ [])) (4 + 4 * maxNodes) (now (d .entry)) from count (now (d .exit)) r ⌝ }
+    requires { ⌜ (count ≤ maxTasks) × (nodes ≤ maxNodes) × (from + count * taskWidth version nodes ≤ length (now d)) ⌝ }
+    ensures { λ r. ⌜ Rows (λ j. taskNumbers version nodes (getD tasks j noTask)) (taskWidth version nodes) (now (d .entry)) from count (now (d .exit)) r ⌝ }
 {
     let mut at = from;
     let mut i: usize = 0;
     while i < count {
         let task = tasks[i];
-        let run = task.run;
-        let behind = put(d, at, task.deadline);
-        at = put_run(d, behind, nodes, run);
+        at = put_task(d, at, version, nodes, task);
         i += 1;
     }
     at
@@ -132,14 +169,15 @@ fn put_job(d: &mut [u8], job: Job) -> usize
     let p = clip(job.node_count, Job::MAX_NODES);
     let n = clip(job.task_count, Job::MAX_TASKS);
     let m = clip(job.link_count, Job::MAX_LINKS);
+    let version = job.version as usize;
     let nodes = job.nodes;
     let tasks = job.tasks;
     let links = job.links;
     let mut at = put(d, 0, job.version);
     at = put(d, at, job.node_count);
-    at = put_nodes(d, at, p, nodes);
+    at = put_nodes(d, at, version, p, nodes);
     at = put(d, at, job.task_count);
-    at = put_tasks(d, at, n, p, tasks);
+    at = put_tasks(d, at, version, p, n, tasks);
     at = put(d, at, job.link_count);
     put_links(d, at, m, links)
 }

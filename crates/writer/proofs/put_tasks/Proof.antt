@@ -1,29 +1,38 @@
--- `reader::writer::put_tasks` meets its contract.
-use Prim.Native.Nat.{_+_, _*_, _-_, _≤_}
+-- `writer::put_tasks` meets its contract.
+use Prim.Native.Nat.{_-_, _≤_}
 use mathlib.Core.Path.{_≡_}
-use mathlib.Core.List.{[], _∷_}
 use lib.ListN.{getD}
 use native.Mathlib.Omega.{arith}
 use borrow.Author.Needs.{needs}
-use Rattle.reader.specs.Limits.{maxNodes}
 use Rattle.reader.specs.Entries.{noTask}
-use Rattle.writer.specs.Write.{flat}
+use Rattle.reader.specs.JobFile.{taskWidth}
+use Rattle.writer.specs.Write.{taskNumbers}
 use Rattle.writer.specs.Puts.{Rows}
-use Rattle.writer.proofs.PutLaws.{puts-then, rows-none, rows-more}
+use Rattle.writer.proofs.PutLaws.{puts-end, rows-none, rows-more, row-room}
+use Rattle.writer.proofs.SameNumbers.{task-width}
 use Rattle.writer.proofs.put_tasks.Statement.{statement}
 use Rattle.writer.proofs.put_tasks.Tie as tie
 
 abbrev Inv-loop : tie.InvT-loop
-Inv-loop d₀ from count nodes tasks at₀ i₀ d at i = (i ≤ count) × Rows (λ j. getD tasks j noTask .deadline ∷ flat nodes (λ i. getD (getD tasks j noTask .run) i 0 ∷ [])) (4 + 4 * maxNodes) d₀ from i d at
+Inv-loop d₀ from version nodes count tasks at₀ i₀ d at i =
+    (i ≤ count) × Rows (λ i. taskNumbers version nodes (getD tasks i noTask)) (taskWidth version nodes) d₀ from i d at
 
 abbrev μ-loop : tie.MeasureT-loop
-μ-loop d₀ from count nodes tasks at₀ i₀ d at i = count - i
+μ-loop d₀ from version nodes count tasks at₀ i₀ d at i = count - i
 
 loop-holds : tie.Need-loop-holds Inv-loop μ-loop
 loop-holds c = (omega arith, rows-none _ _)
 
+put-task-requires : tie.Need-put-task-requires Inv-loop μ-loop
+put-task-requires c κs =
+    let at-loop = c .before .before .before in
+    let pre = at-loop .before .before .pre in
+    (pre .1, row-room _ (at-loop .loop .inv .1) (c .before .before .loop-test .taken) (pre .2))
+
 loop-again : tie.Need-loop-again Inv-loop μ-loop
-loop-again c = (omega arith, rows-more (c .before .before .before .before .before .before .before .before .before .before .before .loop .inv .1) (puts-then (c .before .before .before .before .before .before .put .ensures) (c .before .before .put-run .ensures .puts)) (omega arith))
+loop-again c =
+    let put = c .before .before .put-task .ensures in
+    (omega arith, rows-more (c .before .before .before .before .before .before .loop .inv .1) put (omega (arith, puts-end (task-width _ _ _) put)))
 
 returns : tie.Need-returns Inv-loop μ-loop
 returns c = let e : c .before .loop .i ≡ c .before .before .before .args .count = omega arith in rw e at (c .before .loop .inv .1)
@@ -31,5 +40,5 @@ returns c = let e : c .before .loop .i ≡ c .before .before .before .args .coun
 pub put-tasks-spec : {M : Type 1} → statement M
 put-tasks-spec =
     tie.close
-    (tie.spec Inv-loop μ-loop loop-holds (λ c. search needs) (λ c. search needs) (λ c κs. search needs) (λ c κs. search needs) (λ c. search needs) (λ c. search needs) loop-again
-    (λ c. search needs) returns)
+    (tie.spec Inv-loop μ-loop loop-holds (λ c. search needs) (λ c. search needs) put-task-requires (λ c. search needs) (λ c. search needs)
+    loop-again (λ c. search needs) returns)

@@ -11,17 +11,19 @@ use Rattle.judge.proofs.tasks.place_copies.Statement.{statement}
 use Rattle.judge.proofs.tasks.place_copies.Tie as tie
 
 abbrev Inv-loop : tie.InvT-loop
-Inv-loop n node₀ start₀ finish₀ sets₀ tasks nodes plan same₀ early₀ late₀ j₀ node start finish sets same early late j =
-    (job : Job) → Placing (tasked job tasks nodes n) plan j (table node start finish sets) same early late
+Inv-loop n node₀ start₀ finish₀ sets₀ tasks nodes plan same₀ soon₀ early₀ late₀ j₀ node start finish sets same soon early late j =
+    (job : Job) → Placing (tasked job tasks nodes n) plan j (table node start finish sets) same soon early late
 
 abbrev μ-loop : tie.MeasureT-loop
-μ-loop n node₀ start₀ finish₀ sets₀ tasks nodes plan same₀ early₀ late₀ j₀ node start finish sets same early late j = n - j
+μ-loop n node₀ start₀ finish₀ sets₀ tasks nodes plan same₀ soon₀ early₀ late₀ j₀ node start finish sets same soon early late j = n - j
 
 -- the turn, from where all rules are noted, and the room that it has
-abbrev turn : tie.After-noted3 Inv-loop μ-loop → tie.In-loop Inv-loop μ-loop
-turn c = c .before .before .before .before .before .before .before .before .before .before .before .before .before .before .before .before
+abbrev turn : tie.After-noted4 Inv-loop μ-loop → tie.In-loop Inv-loop μ-loop
+turn c =
+    let at-noted2 = c .before .before .before .before .before .before .before in
+    at-noted2 .before .before .before .before .before .before .before .before .before .before .before .before
 
-room : (c : tie.After-noted3 Inv-loop μ-loop) → 2 * turn c .before .loop .j + 1 < copyCount
+room : (c : tie.After-noted4 Inv-loop μ-loop) → 2 * turn c .before .loop .j + 1 < copyCount
 room c = omega (arith, turn c .loop-test .taken, turn c .before .before .pre .0 .few)
 
 loop-holds : tie.Need-loop-holds Inv-loop μ-loop
@@ -35,7 +37,8 @@ copy-of-requires-2 c κs = c .before .before .before .before .before .pre .0 .ba
 
 add-noted : tie.Need-add-noted Inv-loop μ-loop
 add-noted c =
-    let at-copy-of = c .before .before .before .before .before .before .before .before in
+    let at-noted = c .before .before .before .before .before in
+    let at-copy-of = at-noted .before .before .before .before .before .before in
     let at-loop-test = at-copy-of .before .before .before in
     let fits = at-loop-test .before .before .pre .0 in
     omega (arith, detect-fits (tasked emptyJob _ _ _) _ fits _ (at-loop-test .loop-test .taken) _ (at-copy-of .copy-of .ensures .0))
@@ -45,8 +48,8 @@ mul-k c = omega (arith, room c)
 
 put-requires : tie.Need-put-requires Inv-loop μ-loop
 put-requires c κs =
-    let at-noted3 = c .before .before .before .before in
-    (turn at-noted3 .before .loop .inv emptyJob .tabled .whole, omega (arith, room at-noted3))
+    let at-noted4 = c .before .before .before .before in
+    (turn at-noted4 .before .loop .inv emptyJob .tabled .whole, omega (arith, room at-noted4))
 
 add-put : tie.Need-add-put Inv-loop μ-loop
 add-put c = omega (arith, room (c .before .before .before .before .before .before .before .before .before))
@@ -65,23 +68,24 @@ loop-less c = omega (arith, turn (c .before .before .before .before .before .bef
 loop-again : tie.Need-loop-again Inv-loop μ-loop
 loop-again c =
     let at-put = c .before .before .before .before .before in
-    let at-noted3 = at-put .before .before .before .before .before in
-    let at-noted2 = at-noted3 .before .before .before in
-    let at-noted = at-noted2 .before .before .before .before in
+    let at-noted4 = at-put .before .before .before .before .before in
+    let at-noted3 = at-noted4 .before .before .before in
+    let at-noted2 = at-noted3 .before .before .before .before in
+    let at-noted = at-noted2 .before .before .before in
     let at-copy-of2 = at-noted .before .before .before .before .before in
     let at-loop-test = at-copy-of2 .before .before .before .before in
-    λ job. placing-more _ _ (at-loop-test .before .before .pre .0 .few) _ _ _ _ _ (at-loop-test .before .loop .inv job) (at-loop-test .loop-test .taken) _ _
-    (at-copy-of2 .before .copy-of .ensures .0) (at-copy-of2 .copy-of2 .ensures .0) _ _ _ (at-noted .noted .ensures) (at-noted2 .noted2 .ensures)
-    (at-noted3 .noted3 .ensures) _ _ (at-put .put .ensures .1) (c .put2 .ensures .1) (c .put2 .ensures .0)
+    λ job. placing-more _ _ (at-loop-test .before .before .pre .0 .few) _ _ _ _ _ _ (at-loop-test .before .loop .inv job) (at-loop-test .loop-test .taken)
+    _ _ (at-copy-of2 .before .copy-of .ensures .0) (at-copy-of2 .copy-of2 .ensures .0) _ _ _ _ (at-noted .noted .ensures) (at-noted2 .noted2 .ensures)
+    (at-noted3 .noted3 .ensures) (at-noted4 .noted4 .ensures) _ _ (at-put .put .ensures .1) (c .put2 .ensures .1) (c .put2 .ensures .0)
 
 returns : tie.Need-returns Inv-loop μ-loop
 returns c =
     let at-pre = c .before .before .before in
-    λ job. placing-done _ _ (at-pre .pre .0 .few) _ _ _ _ _ (c .before .before .loop .inv job) (omega arith) _ (c .task-answer .ensures)
+    λ job. placing-done _ _ (at-pre .pre .0 .few) _ _ _ _ _ _ (c .before .before .loop .inv job) (omega arith) _ (c .task-answer .ensures)
 
 pub place-copies-spec : {M : Type 1} → statement M
 place-copies-spec =
     tie.close
     (tie.spec Inv-loop μ-loop loop-holds (λ c. search needs) (λ c. search needs) (λ c. search needs) (λ c. search needs) copy-of-requires
-    copy-of-requires-2 (λ c. search needs) (λ c. search needs) (λ c. search needs) (λ c κs. search needs) add-noted (λ c κs. search needs)
-    (λ c κs. search needs) mul-k put-requires add-put put-requires-2 add-j loop-less loop-again (λ c κs. search needs) returns)
+    copy-of-requires-2 (λ c. search needs) (λ c. search needs) (λ c. search needs) (λ c κs. search needs) (λ c κs. search needs) add-noted
+    (λ c κs. search needs) (λ c κs. search needs) mul-k put-requires add-put put-requires-2 add-j loop-less loop-again (λ c κs. search needs) returns)
