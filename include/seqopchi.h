@@ -65,11 +65,11 @@ extern "C" {
 /* Lengths in bytes of what is read and written. Those of a job go by its version:
  * the entry of a node (detect time, in each version) and of a task (ready time, from
  * version 2 on; deadline; run times), then the file. */
-#define SEQOPCHI_NODE_BYTES(version) (4 + 0 * (version))
+#define SEQOPCHI_NODE_BYTES 4
 #define SEQOPCHI_TASK_BYTES(version, nodes) \
     (((version) >= 2 ? 8 : 4) + 4 * (nodes))
 #define SEQOPCHI_JOB_BYTES(version, nodes, tasks, links) \
-    (16 + SEQOPCHI_NODE_BYTES(version) * (nodes) \
+    (16 + SEQOPCHI_NODE_BYTES * (nodes) \
      + SEQOPCHI_TASK_BYTES(version, nodes) * (tasks) + 12 * (links))
 #define SEQOPCHI_PLAN_BYTES(tasks) (8 + 16 * (tasks))
 #define SEQOPCHI_REPLAY_BYTES(tasks) (12 * (tasks))

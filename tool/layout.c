@@ -39,7 +39,7 @@ uint32_t job_nodes(const struct file *job)
 
 size_t node_at(const struct file *job, uint32_t node)
 {
-    return 8 + SEQOPCHI_NODE_BYTES(job_version(job)) * (size_t)node;
+    return 8 + SEQOPCHI_NODE_BYTES * (size_t)node;
 }
 
 uint32_t job_detect(const struct file *job, uint32_t node)

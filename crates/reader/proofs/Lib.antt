@@ -9,8 +9,7 @@ pub mod ByteLaws
 pub mod NumberLaws
 pub mod Chain
 pub mod ReadLoop
-pub mod NodeLaws
-pub mod TaskLaws
+pub mod FieldsRead
 pub mod LinkLaws
 pub mod PlaceLaws
 pub mod Accepted

@@ -6,15 +6,13 @@ use mathlib.Core.Bool.{true}
 use mathlib.Core.List.{List}
 use mathlib.Core.Option.{Option, none}
 use lib.ListN.{getD}
-use borrow.Author.Tests.{lt-leb}
-use Rattle.reader.specs.declared.job.Node.{Node}
 use Rattle.reader.specs.declared.job.Task.{Task}
 use Rattle.reader.specs.declared.job.Link.{Link}
 use Rattle.reader.specs.declared.job.Job.{Job}
 use Rattle.reader.specs.declared.plan.Place.{Place}
 use Rattle.reader.specs.declared.refusal.Refusal.{Refusal}
 use Rattle.reader.specs.declared.refusal.Answer.the-variants.{Done}
-use Rattle.reader.specs.Limits.{readySince, minTasks, maxNodes, maxDetect, minDeadline, maxTime, maxStart}
+use Rattle.reader.specs.Limits.{minTasks, maxNodes, maxTime, maxStart}
 use Rattle.reader.specs.Entries.{nodes, tasks, node, task, link, place, emptyJob, emptyPlan}
 use Rattle.reader.specs.Sound.{below, Sound, PlanSound}
 use Rattle.reader.specs.JobFile.{jobVersion, nodeCount, taskCount, linkCount, nodeAt, taskAt, linkAt, linkBefore, jobFault, jobAt, unlessFault}
@@ -22,7 +20,7 @@ use Rattle.reader.specs.JobFile.{readJob, JobDone}
 use Rattle.reader.specs.Fields.{nodeFields, taskFields, nodeValues, taskValues, reaches, width, fieldsAt}
 use Rattle.reader.specs.PlanFile.{placeAt, planFault, planAt, readPlan, PlanDone}
 use Rattle.reader.proofs.RefusalLaws.{answered-done}
-use Rattle.reader.proofs.VersionLaws.{GoodFields, AllWithin, fields-within, within-most}
+use Rattle.reader.proofs.VersionLaws.{GoodFields, AllWithin, fields-within, within-most, within-lacks}
 use Rattle.reader.proofs.Accepted.{GoodTask, GoodLink, GoodJob, GoodPlace, GoodPlan, job-good, plan-good}
 use Rattle.reader.proofs.EntryLaws.{node-at, run-at, task-at, link-at, place-at}
 
@@ -43,26 +41,6 @@ unfolding taskAt fieldsAt taskFields
 task-sound v s at p m g = record {
   fields = fields-within v s at taskFields (g .fields);
   run = λ i l. omega (arith, run-at s (at + width v taskFields) p i m l, g .run i l .most);
-}
-
--- the limits of the fields, each by its name
-node-limits : (v : ℕ) (x : Node) → AllWithin v nodeFields (nodeValues x) → x .detect ≤ maxDetect
-unfolding AllWithin nodeFields reaches
-node-limits v x w = w .0 .most refl
-
-record TaskLimits (v : ℕ) (t : Task) : Type 0 where
-  pub ready : t .ready ≤ maxTime
-  pub ready-lacks : v < readySince → t .ready ≡ 0
-  pub least : minDeadline ≤ t .deadline
-  pub most : t .deadline ≤ maxTime
-
-task-limits : (v : ℕ) (t : Task) → AllWithin v taskFields (taskValues t) → TaskLimits v t
-unfolding AllWithin taskFields reaches
-task-limits v t w = record {
-  ready = within-most v _ _ (w .0) (omega arith);
-  ready-lacks = λ h. w .0 .lacks (lt-leb readySince v h);
-  least = w .1 .0 .least refl;
-  most = w .1 .0 .most refl;
 }
 
 pub record SoundLink (n : ℕ) (l : Link) : Type 0 where
@@ -94,10 +72,10 @@ place-sound s at p run m g = record {
 }
 
 module _ (s : List ℕ) (g : GoodJob s) where
-  detects-most : (i : ℕ) → i < nodeCount s → node (jobAt s) i .detect ≤ maxDetect
-  detects-most i p =
-      subst (λ x. x .detect ≤ maxDetect) (sym (node-at s i (g .nodes .count .most) p))
-      (node-limits (jobVersion s) _ (node-sound (jobVersion s) s _ (g .nodes .entry i p)))
+  nodes-sound : (i : ℕ) → i < nodeCount s → AllWithin (jobVersion s) nodeFields (nodeValues (node (jobAt s) i))
+  nodes-sound i p =
+      subst (λ x. AllWithin (jobVersion s) nodeFields (nodeValues x)) (sym (node-at s i (g .nodes .count .most) p))
+      (node-sound (jobVersion s) s _ (g .nodes .entry i p))
 
   tasks-sound : (j : ℕ) → j < taskCount s → SoundTask (jobVersion s) (nodeCount s) (task (jobAt s) j)
   tasks-sound j p =
@@ -116,24 +94,24 @@ module _ (s : List ℕ) (g : GoodJob s) where
       (g .links .link (suc k) p .order)
 
 pub job-sound : (s : List ℕ) → jobFault s ≡ none → Sound (jobAt s)
-unfolding jobAt
+unfolding jobAt AllWithin nodeFields taskFields reaches
 job-sound s e =
     let g = job-good s e in
-    let limits : ((j : ℕ) → j < taskCount s → TaskLimits (jobVersion s) (task (jobAt s) j)) =
-    λ j p. task-limits (jobVersion s) (task (jobAt s) j) (tasks-sound s g j p .fields) in
+    let node = nodes-sound s g in
+    let task = tasks-sound s g in
     record {
       version-least = g .version .least;
       version-most = g .version .most;
       nodes-least = g .nodes .count .least;
       nodes-most = g .nodes .count .most;
-      detect-most = detects-most s g;
+      detect-most = λ i p. node i p .0 .most refl;
       tasks-least = g .tasks .count .least;
       tasks-most = g .tasks .count .most;
-      ready-most = λ j p. limits j p .ready;
-      ready-lacks = λ j p. limits j p .ready-lacks;
-      deadline-least = λ j p. limits j p .least;
-      deadline-most = λ j p. limits j p .most;
-      run-most = λ j i p l. tasks-sound s g j p .run i l;
+      ready-most = λ j p. within-most _ _ _ (task j p .fields .0) (omega arith);
+      ready-lacks = λ j p. within-lacks _ _ _ (task j p .fields .0);
+      deadline-least = λ j p. task j p .fields .1 .0 .least refl;
+      deadline-most = λ j p. task j p .fields .1 .0 .most refl;
+      run-most = λ j i p l. task j p .run i l;
       links-most = g .links .count .most;
       rise = λ k p. links-sound s g k p .rise;
       into = λ k p. links-sound s g k p .into;

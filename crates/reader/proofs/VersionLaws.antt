@@ -1,5 +1,5 @@
 -- Laws of the fields of an entry, whichever of them its version has: their bytes, their faults, their limits.
-use Prim.Native.Nat.{ℕ, _+_, _*_, _≤_}
+use Prim.Native.Nat.{ℕ, zero, suc, _+_, _*_, _≤_, _<_}
 use native.Mathlib.Nat.{add-assoc}
 use native.Mathlib.Omega.{arith}
 use mathlib.Core.Path.{_≡_, refl}
@@ -7,12 +7,13 @@ use mathlib.Core.Bool.{Bool, true, false}
 use mathlib.Core.List.{List, [], _∷_}
 use mathlib.Core.Option.{Option, none}
 use lib.ListN.{length}
+use borrow.Author.Tests.{leb-false, lt-leb}
 use Rattle.reader.specs.declared.refusal.Refusal.{Refusal}
 use Rattle.reader.specs.declared.refusal.Refusal.the-variants.{Value}
 use Rattle.reader.specs.declared.number.Number.{Number}
 use Rattle.reader.specs.declared.number.Number.the-variants.{Is}
 use Rattle.reader.specs.Number.{numberAt, numbered}
-use Rattle.reader.specs.Fields.{Field, widthIf, faultIf, valueIf, has, width, fieldsFault, fieldsAt}
+use Rattle.reader.specs.Fields.{Field, widthIf, faultIf, valueIf, reaches, has, width, fieldsFault, fieldsAt}
 use Rattle.reader.proofs.TestLaws.{split, clash}
 use Rattle.reader.proofs.FirstLaws.{or-else-l, or-else-r, or-else-i}
 use Rattle.reader.proofs.FieldLaws.{Good, field-good, good-field}
@@ -55,6 +56,23 @@ pub record Within (v : ℕ) (f : Field) (x : ℕ) : Type 0 where
 
 pub within-most : (v : ℕ) (f : Field) (x : ℕ) → Within v f x → f .lacking ≤ f .high → x ≤ f .high
 within-most v f x w h = split (has v f) (w .most) (λ e. omega (arith, w .lacks e))
+
+-- the same by the version's number
+reaches-not : (v k : ℕ) → v < k → reaches v k ≡ false
+unfolding reaches
+reaches-not v zero h = absurd (let z : ⊥ = omega arith in z)
+reaches-not v (suc k) h = lt-leb (suc k) v h
+
+not-reaches : (v k : ℕ) → reaches v k ≡ false → v < k
+unfolding reaches
+not-reaches v zero e = clash true refl e
+not-reaches v (suc k) e = leb-false (suc k) v e
+
+pub within-lacks : (v : ℕ) (f : Field) (x : ℕ) → Within v f x → v < f .since → x ≡ f .lacking
+within-lacks v f x w h = w .lacks (reaches-not v (f .since) h)
+
+pub within-i : (v : ℕ) (f : Field) (x : ℕ) → f .low ≤ x → x ≤ f .high → (v < f .since → x ≡ f .lacking) → Within v f x
+within-i v f x l m k = record { least = λ _. l; most = λ _. m; lacks = λ e. k (not-reaches v (f .since) e) }
 
 within-if : (v : ℕ) (s : List ℕ) (at : ℕ) (f : Field) → (has v f ≡ true → Good s at (f .low) (f .high))
     → Within v f (valueIf (has v f) (numberAt s at) (f .lacking))

@@ -62,7 +62,7 @@ unfoldable pub heldIf : Bool → ℕ → List ℕ → List ℕ
 heldIf true x xs = x ∷ xs
 heldIf false x xs = xs
 
--- whether version v is one from this on
+-- whether version v is k or later; by clauses, so that of a field of every version it computes
 unfoldable pub reaches : ℕ → ℕ → Bool
 reaches v zero = true
 reaches v (suc k) = leb (suc k) v

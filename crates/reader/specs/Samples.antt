@@ -57,9 +57,12 @@ twoTasks deadline = jobOf (taskOf 30 4 ∷ taskOf deadline 3 ∷ [])
 abbrev pub J : Job
 J = twoTasks 30 (linkOf 0 1 2 ∷ [])
 
--- the same in version 2, with these ready times
+-- the same in another version, with these ready times; and in version 2
+abbrev pub JIn : ℕ → ℕ → ℕ → Job
+JIn version a b = jobIn version (readyTask a 30 4 ∷ readyTask b 30 3 ∷ []) (linkOf 0 1 2 ∷ [])
+
 abbrev pub JReady : ℕ → ℕ → Job
-JReady a b = jobIn 2 (readyTask a 30 4 ∷ readyTask b 30 3 ∷ []) (linkOf 0 1 2 ∷ [])
+JReady = JIn 2
 
 abbrev pub JWithoutLink : Job
 JWithoutLink = twoTasks 30 []

@@ -13,6 +13,7 @@ pub mod PlaceTaskLaws
 pub mod AnywhereLaws
 pub mod KeepsLaws
 pub mod PlannedPasses
+pub mod Ready
 pub mod PlannerRefusals
 pub mod Samples
 pub mod WrongTurns

@@ -29,7 +29,7 @@ planIn job plan = planAt plan (tasks (jobAt job))
 unfoldable pub filesFault : List ℕ → List ℕ → Option Refusal
 filesFault job plan = jobFault job or-else planFault plan (jobAt job)
 
--- 'The judge reads job, plan, then tries 8 to 14 in turn'
+-- 'The judge reads job, plan, then tries 8 to 14 in turn', (ii) and 19 after 8
 unfoldable pub judgeFiles : List ℕ → List ℕ → Option Refusal
 judgeFiles job plan = filesFault job plan or-else breach (jobAt job) (rows (jobAt job) (planIn job plan))
 

@@ -8,24 +8,24 @@ use mathlib.Core.List.{List, [], _∷_, append-nil}
 use mathlib.Core.Option.{none}
 use lib.Dec.{ltb}
 use lib.ListN.{length, getD}
-use borrow.Author.Tests.{leb-false, ltb-false, lt-ltb, eq-eqb}
+use borrow.Author.Tests.{ltb-false, lt-ltb, eq-eqb}
 use Rattle.reader.specs.declared.job.Node.{Node}
 use Rattle.reader.specs.declared.job.Task.{Task}
 use Rattle.reader.specs.declared.job.Link.{Link}
 use Rattle.reader.specs.declared.job.Job.{Job}
 use Rattle.reader.specs.declared.plan.Place.{Place}
 use Rattle.reader.specs.declared.plan.Plan.{Plan}
-use Rattle.reader.specs.Limits.{firstVersion, newestVersion, readySince, maxTasks, maxTime}
+use Rattle.reader.specs.Limits.{firstVersion, newestVersion, maxTasks, maxTime}
 use Rattle.reader.specs.Entries.{noLink, nodes, tasks, links, node, task, link, place}
 use Rattle.reader.specs.Sound.{below, Sound, PlanSound}
 use Rattle.reader.specs.Number.{numberAt}
 use Rattle.reader.specs.JobFile.{jobVersion, nodeWidth, taskWidth, taskSection, linkSection, jobLength, nodeCount, linkAt, linkBefore, jobFault}
-use Rattle.reader.specs.Fields.{nodeFields, taskFields, nodeValues, taskValues, reaches, width, held}
+use Rattle.reader.specs.Fields.{nodeFields, taskFields, nodeValues, taskValues, width, held}
 use Rattle.reader.specs.PlanFile.{placeAt, planFault}
 use Rattle.writer.specs.Write.{flat, nodeNumbers, taskNumbers, linkNumbers, placeNumbers, numbersOf, jobNumbers, jobBytes, planNumbers, planBytes}
-use Rattle.reader.proofs.TestLaws.{split, clash, or-l, or-r, and-i}
+use Rattle.reader.proofs.TestLaws.{split, or-l, or-r, and-i}
 use Rattle.reader.proofs.FieldLaws.{Good}
-use Rattle.reader.proofs.VersionLaws.{AllWithin, GoodFields}
+use Rattle.reader.proofs.VersionLaws.{AllWithin, GoodFields, within-i}
 use Rattle.reader.proofs.Accepted.{GoodNodes, GoodTask, GoodTasks, GoodLink, GoodLinks, GoodJob, GoodPlace, GoodPlan}
 use Rattle.reader.proofs.Promise.{SoundTask, SoundLink, SoundPlace}
 use Rattle.writer.proofs.Segments.{Stands, stands-same, stands-split, stands-rows, stands-end, stands-at, pack-stands}
@@ -37,19 +37,18 @@ use Rattle.reader.proofs.Faultless.{good-job, good-plan}
 
 -- the entries of a sound job and of a sound plan
 pub node-of : (job : Job) → Sound job → (i : ℕ) → i < nodes job → AllWithin (job .version) nodeFields (nodeValues (node job i))
-unfolding AllWithin nodeFields reaches
-node-of job h i p = (record { least = λ _. omega arith; most = λ _. h .detect-most i p; lacks = λ e. clash true refl e }, refl)
+unfolding AllWithin nodeFields
+node-of job h i p = (
+  within-i _ _ _ (omega arith) (h .detect-most i p) (λ l. absurd (let z : ⊥ = omega arith in z)),
+  refl,
+)
 
 pub task-of : (job : Job) → Sound job → (j : ℕ) → j < tasks job → SoundTask (job .version) (nodes job) (task job j)
-unfolding AllWithin taskFields reaches
+unfolding AllWithin taskFields
 task-of job h j p = record {
   fields = (
-    record {
-      least = λ _. omega arith;
-      most = λ _. h .ready-most j p;
-      lacks = λ e. h .ready-lacks j p (leb-false readySince (job .version) e);
-    },
-    (record { least = λ _. h .deadline-least j p; most = λ _. h .deadline-most j p; lacks = λ e. clash true refl e }, refl),
+    within-i _ _ _ (omega arith) (h .ready-most j p) (h .ready-lacks j p),
+    (within-i _ _ _ (h .deadline-least j p) (h .deadline-most j p) (λ l. absurd (let z : ⊥ = omega arith in z)), refl),
   );
   run = λ i l. h .run-most j i p l;
 }

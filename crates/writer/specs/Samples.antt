@@ -8,7 +8,7 @@ use Rattle.reader.specs.declared.refusal.Answer.the-variants.{Done, Refused}
 use Rattle.reader.specs.declared.refusal.Told.{Told}
 use Rattle.reader.specs.Refusals.{told, tell}
 use Rattle.reader.specs.declared.job.Job.{Job}
-use Rattle.reader.specs.Samples.{readyTask, jobIn, linkOf, J, JReady}
+use Rattle.reader.specs.Samples.{readyTask, jobIn, J, JIn, JReady}
 use Rattle.reader.specs.JobFile.{readJob, readJobUpTo}
 use Rattle.writer.specs.Write.{pack, jobBytes}
 use Rattle.writer.specs.Equality.{SameJob}
@@ -30,12 +30,9 @@ pub record Sample11 : Type 0 where
   pub seventeen : shown (readJob (nodesFile 17) .answer) ≡ told 3 4 0
   pub empty : shown (readJob [] .answer) ≡ told 1 0 0
 
--- J in a version that is not known, and J with ready times that its version lacks
-abbrev pub JIn : ℕ → Job
-JIn version = jobIn version (readyTask 0 30 4 ∷ readyTask 0 30 3 ∷ []) (linkOf 0 1 2 ∷ [])
-
+-- J with ready times that its version lacks
 abbrev pub JStray : Job
-JStray = jobIn 1 (readyTask 7 30 4 ∷ readyTask 9 30 3 ∷ []) (linkOf 0 1 2 ∷ [])
+JStray = JIn 1 7 9
 
 -- (ii): 'each job is written back in its own version'; 'a field that a job's version lacks is no part of the job'; 'a console that knows only
 -- version 1 refuses the newer file as version'; in version 2 the ready time of task 1 of J stands at 44, its deadline at 48
@@ -44,8 +41,8 @@ pub record Versions : Type 0 where
   pub stray-bytes : jobBytes JStray ≡ jobBytes J
   pub stray-same : SameJob JStray J
   pub stray-read : readJob (jobBytes JStray) .job ≡ J
-  pub none : shown (readJob (jobBytes (JIn 0)) .answer) ≡ told 2 0 0
-  pub later : shown (readJob (jobBytes (JIn 3)) .answer) ≡ told 2 0 0
+  pub none : shown (readJob (jobBytes (JIn 0 0 0)) .answer) ≡ told 2 0 0
+  pub later : shown (readJob (jobBytes (JIn 3 0 0)) .answer) ≡ told 2 0 0
   pub older-reader : shown (readJobUpTo 1 (jobBytes (JReady 0 0)) .answer) ≡ told 2 0 0
   pub ready-most : shown (readJob (jobBytes (JReady 0 1_000_000)) .answer) ≡ told 0 0 0
   pub ready-above : shown (readJob (jobBytes (JReady 0 1_000_001)) .answer) ≡ told 4 44 0
