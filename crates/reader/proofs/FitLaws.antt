@@ -17,9 +17,9 @@ use Rattle.reader.specs.Entries.{tasks}
 use Rattle.reader.specs.Sound.{Sound}
 use Rattle.reader.specs.Refusals.{told, tell, Fits, FaultFits}
 use Rattle.reader.specs.Number.{numberAt, fieldFault, versionFault, countFault, valueFault}
-use Rattle.reader.specs.JobFile.{jobVersion, nodeWidth, taskWidth, nodeSection, taskSection, linkSection, jobLength, nodeCount, taskCount, linkCount}
+use Rattle.reader.specs.JobFile.{jobVersion, taskWidth, nodeSection, taskSection, linkSection, jobLength, nodeCount, taskCount, linkCount}
 use Rattle.reader.specs.JobFile.{nodesFault, runFault, taskFault, tasksFault, linkFault, linksFault, tailFault, jobFault}
-use Rattle.reader.specs.Fields.{Field, nodeFields, taskFields, widthIf, faultIf, has, width, fieldsFault}
+use Rattle.reader.specs.Fields.{Field, nodeFields, taskFields, faultIf, has, width, fieldsFault}
 use Rattle.reader.specs.PlanFile.{nodeFault, placeFault, placesFault, planLength, planFault}
 use Rattle.reader.proofs.TestLaws.{never}
 use Rattle.reader.proofs.FieldLaws.{field-good}

@@ -9,7 +9,6 @@ use lib.ListN.{length}
 use Rattle.reader.specs.Number.{numberAt, Words}
 use Rattle.reader.specs.Fields.{Field, widthIf, valueIf, heldIf, has, width, fieldsAt, held}
 use Rattle.reader.proofs.TestLaws.{clash}
-use Rattle.reader.proofs.FieldLaws.{Good}
 use Rattle.reader.proofs.VersionLaws.{Within, AllWithin, GoodFields}
 use Rattle.writer.proofs.Segments.{Stands, stands-le}
 

@@ -1,4 +1,3 @@
-use mathlib.Core.Path.{refl}
 use native.Mathlib.Omega.{arith}
 use Rattle.reader.specs.Fields.{widthIf}
 use Rattle.reader.proofs.job_file.width_if.Statement.{statement}
