@@ -61,7 +61,7 @@ struct field job_field(const struct file *job, size_t at)
     if (at < task_count_at(job)) {
         f = field(0, SEQOPCHI_MAX_DETECT, "");
         snprintf(f.name, sizeof f.name, "the detect time of node %zu",
-                 (at - node_at(job, 0)) / SEQOPCHI_NODE_BYTES);
+                 (at - node_at(0)) / SEQOPCHI_NODE_BYTES);
         return f;
     }
     if (at == task_count_at(job))

@@ -37,19 +37,19 @@ uint32_t job_nodes(const struct file *job)
     return number_at(job, 4);
 }
 
-size_t node_at(const struct file *job, uint32_t node)
+size_t node_at(uint32_t node)
 {
     return 8 + SEQOPCHI_NODE_BYTES * (size_t)node;
 }
 
 uint32_t job_detect(const struct file *job, uint32_t node)
 {
-    return number_at(job, node_at(job, node));
+    return number_at(job, node_at(node));
 }
 
 size_t task_count_at(const struct file *job)
 {
-    return node_at(job, job_nodes(job));
+    return node_at(job_nodes(job));
 }
 
 uint32_t job_tasks(const struct file *job)

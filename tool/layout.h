@@ -34,7 +34,7 @@ uint32_t job_links(const struct file *job);
 struct link job_link(const struct file *job, uint32_t link);
 
 /* Offsets at which the sections, their rows and parts of these begin. */
-size_t node_at(const struct file *job, uint32_t node);
+size_t node_at(uint32_t node);
 size_t task_count_at(const struct file *job);
 size_t task_at(const struct file *job, uint32_t task);
 size_t deadline_at(const struct file *job, uint32_t task);
