@@ -19,7 +19,8 @@ ghost use Rattle.reader.specs.Number.{numberAt, versionFault, valueFault
 ghost use Rattle.reader.specs.Fields.{nodeFields, widthIf, faultIf, valueIf, fieldsFault};
 ghost use Rattle.reader.specs.Reads.{Reads};
 ghost use Rattle.reader.specs.Sound.{below as belowOf};
-ghost use Rattle.reader.specs.JobFile.{nodeWidth, taskWidth, nodeSection, taskSection, nodeAt, nodesFault, nodesAt, runFault, runAt, taskFault, taskAt, tasksFault, tasksAt, linkFault, linkAt, linksFault, linksAt, readJob};
+ghost use Rattle.reader.specs.JobFile.{nodeWidth, taskWidth, nodeSection, taskSection, nodeAt, nodesFault, nodesAt, runFault, runAt};
+ghost use Rattle.reader.specs.JobFile.{taskFault, taskAt, tasksFault, tasksAt, linkFault, linkAt, linksFault, linksAt, readJob};
 
 // An entry, or a section of them, with the offset behind it.
 pub struct OneNode {
@@ -72,7 +73,8 @@ pub struct JobRead {
 // A field from 0 to `high`, at offset `at` where the version has it; where it lacks it, what it counts as.
 fn field_if(part: &[u8], base: usize, at: usize, has: bool, high: usize, lacking: u32) -> Number
     requires { ⌜ (base ≤ at) × (at ≤ 65536) ⌝ }
-    ensures { λ r. ⌜ ((file : List ℕ) → drop base file ≡ now (part .entry) → r ≡ numbered (faultIf has (valueFault file at 0 high)) (valueIf has (numberAt file at) lacking)) ⌝ }
+    ensures { λ r. ⌜ ((file : List ℕ) → drop base file ≡ now (part .entry)
+        → r ≡ numbered (faultIf has (valueFault file at 0 high)) (valueIf has (numberAt file at) lacking)) ⌝ }
 {
     if has {
         return field_of_part(part, base, at, 0, high, Refusal::Value(at));
@@ -102,7 +104,8 @@ fn no_node(answer: Answer) -> OneNode
 fn read_node(file: &[u8], version: usize, at: usize) -> OneNode
     requires { ⌜ at ≤ 16384 ⌝ }
     ensures { λ r. ⌜ r .end ≤ at + 32 ⌝ }
-    ensures { λ r. ⌜ Reads (fieldsFault version (now (file .entry)) at nodeFields) (r .answer) ((r .node ≡ nodeAt version (now (file .entry)) at) × (r .end ≡ at + nodeWidth version)) ⌝ }
+    ensures { λ r. ⌜ Reads (fieldsFault version (now (file .entry)) at nodeFields) (r .answer)
+        ((r .node ≡ nodeAt version (now (file .entry)) at) × (r .end ≡ at + nodeWidth version)) ⌝ }
 {
     let d = field(file, at, 0, Job::MAX_DETECT, Refusal::Value(at));
     let Number::Is(detect) = d else {
@@ -130,7 +133,8 @@ fn no_nodes(answer: Answer) -> Nodes
 // The node section.
 fn read_nodes(file: &[u8], version: usize) -> Nodes
     ensures { λ r. ⌜ (r .count ≤ maxNodes) × (r .end ≤ 1024) ⌝ }
-    ensures { λ r. ⌜ Reads (nodesFault version (now (file .entry))) (r .answer) ((r .count ≡ numberAt (now (file .entry)) nodeSection) × (r .list ≡ nodesAt version (now (file .entry)) (r .count)) × (r .end ≡ taskSection version (r .count))) ⌝ }
+    ensures { λ r. ⌜ Reads (nodesFault version (now (file .entry))) (r .answer) ((r .count ≡ numberAt (now (file .entry)) nodeSection)
+        × (r .list ≡ nodesAt version (now (file .entry)) (r .count)) × (r .end ≡ taskSection version (r .count))) ⌝ }
 {
     let c = field(file, 4, Job::MIN_NODES, Job::MAX_NODES, Refusal::Count(4));
     let Number::Is(p) = c else {
@@ -159,7 +163,8 @@ fn read_nodes(file: &[u8], version: usize) -> Nodes
 // A run time for each node, from offset `at`; the part begins at offset `base` of the file.
 fn read_run(part: &[u8], base: usize, at: usize, nodes: usize) -> Run
     requires { ⌜ (base ≤ at) × (at ≤ 16384) × (nodes ≤ maxNodes) ⌝ }
-    ensures { λ r. ⌜ ((file : List ℕ) → drop base file ≡ now (part .entry) → Reads (runFault file at nodes) (r .answer) (r .times ≡ runAt file at nodes)) ⌝ }
+    ensures { λ r. ⌜ ((file : List ℕ) → drop base file ≡ now (part .entry)
+        → Reads (runFault file at nodes) (r .answer) (r .times ≡ runAt file at nodes)) ⌝ }
 {
     let mut times = [0; Job::MAX_NODES];
     let mut i: usize = 0;
@@ -200,7 +205,8 @@ fn no_task(answer: Answer) -> OneTask
 fn read_task(part: &[u8], base: usize, version: usize, at: usize, nodes: usize) -> OneTask
     requires { ⌜ (base ≤ at) × (at ≤ 8192) × (nodes ≤ maxNodes) ⌝ }
     ensures { λ r. ⌜ r .end ≤ at + 96 ⌝ }
-    ensures { λ r. ⌜ ((file : List ℕ) → drop base file ≡ now (part .entry) → Reads (taskFault version file at nodes) (r .answer) ((r .task ≡ taskAt version file at nodes) × (r .end ≡ at + taskWidth version nodes))) ⌝ }
+    ensures { λ r. ⌜ ((file : List ℕ) → drop base file ≡ now (part .entry) → Reads (taskFault version file at nodes) (r .answer)
+        ((r .task ≡ taskAt version file at nodes) × (r .end ≡ at + taskWidth version nodes))) ⌝ }
 {
     let has = Job::READY_SINCE <= version;
     let y = field_if(part, base, at, has, Job::MAX_TIME, 0);
@@ -254,7 +260,9 @@ fn no_tasks(answer: Answer) -> Tasks
 fn read_tasks(part: &[u8], base: usize, version: usize, nodes: usize) -> Tasks
     requires { ⌜ (base ≤ 1024) × (nodes ≤ maxNodes) ⌝ }
     ensures { λ r. ⌜ (r .count ≤ maxTasks) × (r .end ≤ 8192) ⌝ }
-    ensures { λ r. ⌜ ((file : List ℕ) → drop base file ≡ now (part .entry) → Reads (tasksFault version file base nodes) (r .answer) ((r .count ≡ numberAt file base) × (r .list ≡ tasksAt version file base nodes (r .count)) × (r .end ≡ base + 4 + r .count * taskWidth version nodes))) ⌝ }
+    ensures { λ r. ⌜ ((file : List ℕ) → drop base file ≡ now (part .entry) → Reads (tasksFault version file base nodes) (r .answer)
+        ((r .count ≡ numberAt file base) × (r .list ≡ tasksAt version file base nodes (r .count))
+        × (r .end ≡ base + 4 + r .count * taskWidth version nodes))) ⌝ }
 {
     let c = field_of_part(
         part,
@@ -358,7 +366,8 @@ fn no_links(answer: Answer) -> Links
 fn read_links(file: &[u8], at: usize, tasks: usize) -> Links
     requires { ⌜ (at ≤ 8192) × (minTasks ≤ tasks) × (tasks ≤ maxTasks) ⌝ }
     ensures { λ r. ⌜ r .count ≤ maxLinks ⌝ }
-    ensures { λ r. ⌜ Reads (linksFault (now (file .entry)) at tasks) (r .answer) ((r .count ≡ numberAt (now (file .entry)) at) × (r .list ≡ linksAt (now (file .entry)) at (r .count))) ⌝ }
+    ensures { λ r. ⌜ Reads (linksFault (now (file .entry)) at tasks) (r .answer)
+        ((r .count ≡ numberAt (now (file .entry)) at) × (r .list ≡ linksAt (now (file .entry)) at (r .count))) ⌝ }
 {
     let c = field(file, at, 0, Job::MAX_LINKS, Refusal::Count(at));
     let Number::Is(m) = c else {

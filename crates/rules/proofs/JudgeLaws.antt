@@ -72,7 +72,8 @@ module _ (job : Job) (t : ℕ → Row) where
   check-number : (r : Refusal) (n : ℕ) → n < 8 → Broken job (check job t n) r → tell r .number ≡ ruleNumber n
   check-number r =
       eight (λ n. Broken job (check job t n) r → tell r .number ≡ ruleNumber n)
-      (λ w. rw (← w .2)) (λ w. rw (← w .2)) (λ w. rw (← w .2)) (λ w. rw (← w .2)) (λ w. rw (← w .2)) (λ w. rw (← w .2)) (λ w. rw (← w .2)) (λ w. rw (← w .3))
+      (λ w. rw (← w .2)) (λ w. rw (← w .2)) (λ w. rw (← w .2)) (λ w. rw (← w .2)) (λ w. rw (← w .2)) (λ w. rw (← w .2)) (λ w. rw (← w .2))
+      (λ w. rw (← w .3))
 
   pub first-breach : (r : Refusal) → (breach job t ≡ some r) ↔ FirstBreach job t r
   first-breach r = (

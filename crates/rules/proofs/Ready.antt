@@ -36,7 +36,8 @@ module _ (job : Job) (plan : Plan) (j : ℕ) (below : j < tasks job) where
   planned-ready sound h = passed-ready (planned-passes job sound plan h)
 
   -- passed or not
-  pub replayed-ready : Sound job → (loss : Loss) → (replay job plan loss j .primary ≡ notStarted → ⊥) → ready job j ≤ place plan j .«primary_start»
+  pub replayed-ready : Sound job → (loss : Loss) → (replay job plan loss j .primary ≡ notStarted → ⊥)
+      → ready job j ≤ place plan j .«primary_start»
   unfolding replay runTask runPrimary attempt _and_
   replayed-ready sound loss started =
       split (ruleReady job j (rows job plan j .primary)) ready-place (λ e. absurd (started (rw (runs-own job sound (rows job plan) loss j below, e))))

@@ -236,7 +236,8 @@ module _ (s : List ℕ) (job : Job) (h : Sound job) (d : HoldsJob s job) where
   }
 
 -- the version and the counts, where they stand
-job-of : (s : List ℕ) (v p n m : ℕ) → v ≡ jobVersion s → p ≡ nodeCount s → n ≡ numberAt s (taskSection v p) → m ≡ numberAt s (linkSection v p n) →
+job-of : (s : List ℕ) (v p n m : ℕ) → v ≡ jobVersion s → p ≡ nodeCount s → n ≡ numberAt s (taskSection v p) →
+    m ≡ numberAt s (linkSection v p n) →
     Good s 0 firstVersion newestVersion → GoodNodes v s →
     GoodTasks v s (taskSection v p) p → GoodLinks s (linkSection v p n) n → length s ≤ jobLength v p n m → GoodJob s
 job-of s v p n m ev ep en em h a b c e = record {

@@ -18,7 +18,8 @@ ghost use Rattle.reader.specs.Entries.{noNode, noTask, noLink, noPlace};
 ghost use Rattle.reader.specs.Fields.{widthIf, heldIf};
 ghost use Rattle.reader.specs.JobFile.{nodeWidth, taskWidth};
 ghost use Rattle.reader.specs.PlanFile.{planLength};
-ghost use Rattle.writer.specs.Write.{splice, nodeNumbers, taskNumbers, linkNumbers, placeNumbers, jobNumbers, planNumbers, roomFault, writes, writeJob, writePlan};
+ghost use Rattle.writer.specs.Write.{splice, nodeNumbers, taskNumbers, linkNumbers, placeNumbers, jobNumbers, planNumbers};
+ghost use Rattle.writer.specs.Write.{roomFault, writes, writeJob, writePlan};
 ghost use Rattle.reader.specs.Number.{bytes};
 ghost use Rattle.writer.specs.Puts.{Puts, Rows};
 
@@ -125,7 +126,8 @@ fn put_tasks(
     tasks: [Task; Job::MAX_TASKS],
 ) -> usize
     requires { ⌜ (count ≤ maxTasks) × (nodes ≤ maxNodes) × (from + count * taskWidth version nodes ≤ length (now d)) ⌝ }
-    ensures { λ r. ⌜ Rows (λ j. taskNumbers version nodes (getD tasks j noTask)) (taskWidth version nodes) (now (d .entry)) from count (now (d .exit)) r ⌝ }
+    ensures { λ r. ⌜ Rows (λ j. taskNumbers version nodes (getD tasks j noTask)) (taskWidth version nodes)
+        (now (d .entry)) from count (now (d .exit)) r ⌝ }
 {
     let mut at = from;
     let mut i: usize = 0;

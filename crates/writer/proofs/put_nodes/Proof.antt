@@ -14,7 +14,8 @@ use Rattle.writer.proofs.put_nodes.Statement.{statement}
 use Rattle.writer.proofs.put_nodes.Tie as tie
 
 abbrev Inv-loop : tie.InvT-loop
-Inv-loop d₀ from version count nodes at₀ i₀ d at i = (i ≤ count) × Rows (λ i. nodeNumbers version (getD nodes i noNode)) (nodeWidth version) d₀ from i d at
+Inv-loop d₀ from version count nodes at₀ i₀ d at i =
+    (i ≤ count) × Rows (λ i. nodeNumbers version (getD nodes i noNode)) (nodeWidth version) d₀ from i d at
 
 abbrev μ-loop : tie.MeasureT-loop
 μ-loop d₀ from version count nodes at₀ i₀ d at i = count - i
