@@ -29,8 +29,8 @@ rows-room at w zero end h rows = omega arith
 rows-room at w (suc n) end h rows = omega (arith, rows n (omega arith) (rows-room at w n end h (λ i p. rows i (omega arith))))
 
 -- a row of numbers
-pub numbers-good : (s : List ℕ) (n : ℕ) (at : ℕ → ℕ) (low high : ℕ) → first n (λ i. valueFault s (at i) low high) ≡ none → (i : ℕ) → i < n →
-    Good s (at i) low high
+pub numbers-good : (s : List ℕ) (n : ℕ) (at : ℕ → ℕ) (low high : ℕ) → first n (λ i. valueFault s (at i) low high) ≡ none →
+    (i : ℕ) → i < n → Good s (at i) low high
 numbers-good s n at low high e i p = field-good s (at i) low high (Value (at i)) (none-first n _ e i p)
 
 pub record GoodNodes (v : ℕ) (s : List ℕ) : Type 0 where

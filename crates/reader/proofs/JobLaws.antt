@@ -61,7 +61,8 @@ module _ (s : List ℕ) (v : Number) (ev : v ≡ numbered (versionFault newestVe
         ((ns .count ≡ nodeCount s) × (ns .list ≡ nodesAt (jobVersion s) s (ns .count)) × (ns .end ≡ taskSection (jobVersion s) (ns .count)))
     nodes-read =
         subst
-        (λ x. Reads (nodesFault x s) (ns .answer) ((ns .count ≡ nodeCount s) × (ns .list ≡ nodesAt x s (ns .count)) × (ns .end ≡ taskSection x (ns .count))))
+        (λ x. Reads (nodesFault x s) (ns .answer)
+        ((ns .count ≡ nodeCount s) × (ns .list ≡ nodesAt x s (ns .count)) × (ns .end ≡ taskSection x (ns .count))))
         version-is en
 
     pub bad-nodes : {r : Refusal} → ns .answer ≡ Refused r → jobFault s ≡ some r

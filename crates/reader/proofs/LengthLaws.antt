@@ -67,7 +67,10 @@ plan-length s job g = omega (arith, g .room, g .most)
 pub job-longest : (s : List ℕ) → jobFault s ≡ none → length s ≤ longestJob (jobVersion s)
 job-longest s e =
     let g = job-good s e in
-    let most = length-longest (jobVersion s) (nodeCount s) (g .nodes .count .most) (taskCount s) (g .tasks .count .most) (linkCount s) (g .links .count .most) in
+    let few-nodes = g .nodes .count .most in
+    let few-tasks = g .tasks .count .most in
+    let few-links = g .links .count .most in
+    let most = length-longest (jobVersion s) (nodeCount s) few-nodes (taskCount s) few-tasks (linkCount s) few-links in
     omega (arith, job-length s g, most)
 
 -- the longest job of any version

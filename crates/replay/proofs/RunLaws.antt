@@ -142,13 +142,15 @@ module _ (job : Job) (plan : Plan) (loss : Loss) (both : Sound job × PlanSound 
             of-is = u .of-is;
             at-is = u .at-is;
             node-is = u .node-is;
-            primary-ready = ready-more (λ t. T t .primary) (r .primary) _ a (u .primary-ready) (ap (λ c. c .node) p) (rw p (both .1 .primary-start to below)) ea;
+            primary-ready =
+                ready-more (λ t. T t .primary) (r .primary) _ a (u .primary-ready) (ap (λ c. c .node) p) (rw p (both .1 .primary-start to below)) ea;
             backup-ready = ready-more (λ t. T t .backup) (r .backup) _ b (u .backup-ready) (ap (λ c. c .node) q) (rw q (both .1 .backup-start to below)) eb;
           }
 
     -- task j is settled: no link is left that could feed it
     module _ (below : j < tasks job) (left : k < links job → j ≤ link job k .from) where
-      fed-is : (c : ℕ → Copy) (ready : List ℕ) (s : ℕ) → Ready job plan loss c k ready → c j .start ≡ s → leb (getD ready j 0) s ≡ fed job T R j (c j)
+      fed-is : (c : ℕ → Copy) (ready : List ℕ) (s : ℕ) → Ready job plan loss c k ready → c j .start ≡ s →
+          leb (getD ready j 0) s ≡ fed job T R j (c j)
       unfolding fed _implies_
       fed-is c ready s h e =
           ap (λ s. leb (getD ready j 0) s) (sym e)

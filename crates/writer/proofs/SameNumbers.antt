@@ -33,7 +33,8 @@ cut a b c d l e = (
   sym (drop-at a b (length a) refl) ∙ ap (λ x. drop (length a) x) e ∙ drop-at c d (length a) (sym l),
 )
 
-parts : (n m : ℕ) (f g : ℕ → List ℕ) (x y : List ℕ) → n ≡ m → ((i : ℕ) → length (f i) ≡ length (g i)) → flat n f ++ x ≡ flat m g ++ y → Parts n f g x y
+parts : (n m : ℕ) (f g : ℕ → List ℕ) (x y : List ℕ) → n ≡ m → ((i : ℕ) → length (f i) ≡ length (g i)) →
+    flat n f ++ x ≡ flat m g ++ y → Parts n f g x y
 unfolding flat
 parts n m f g x y same h e = go n x y (rw (← same) at e)
   where
@@ -45,7 +46,8 @@ parts n m f g x y same h e = go n x y (rw (← same) at e)
         record { part = λ i p. below-suc i n p (k .part i) (λ q. rw q (c .0)); rest = c .1 }
 
 -- rows with nothing behind them
-all-parts : (n m : ℕ) (f g : ℕ → List ℕ) → n ≡ m → ((i : ℕ) → length (f i) ≡ length (g i)) → flat n f ≡ flat m g → (i : ℕ) → i < n → f i ≡ g i
+all-parts : (n m : ℕ) (f g : ℕ → List ℕ) → n ≡ m → ((i : ℕ) → length (f i) ≡ length (g i)) →
+    flat n f ≡ flat m g → (i : ℕ) → i < n → f i ≡ g i
 all-parts n m f g same h e = parts n m f g [] [] same h (append-nil _ ∙ e ∙ sym (append-nil _)) .part
 
 heads : (v w : ℕ) (vs ws : List ℕ) → v ∷ vs ≡ w ∷ ws → (v ≡ w) × (vs ≡ ws)
@@ -172,4 +174,5 @@ pub same-plan-numbers : (a b : Plan) → SamePlan a b → planNumbers a ≡ plan
 unfolding planNumbers
 same-plan-numbers a b e =
     ap₂ (λ x y. x ++ y) (ap₂ (λ v w. v ∷ w ∷ []) (e .version) (e .task-count))
-    (flat-same _ _ _ (λ j p. ap placeNumbers (e .same-place j (omega arith))) ∙ ap (λ n. flat (min n maxTasks) (λ j. placeNumbers (place b j))) (e .task-count))
+    (flat-same _ _ _ (λ j p. ap placeNumbers (e .same-place j (omega arith)))
+    ∙ ap (λ n. flat (min n maxTasks) (λ j. placeNumbers (place b j))) (e .task-count))

@@ -223,7 +223,9 @@ pub fn put_plan(d: &mut [u8], plan: Plan) -> usize
 
 // A writer's last step: refused for want of room, else the file stands at the buffer's front.
 fn send(file: &[u8], out: &mut [u8]) -> Answer
-    ensures { λ r. ⌜ writes (roomFault (now (out .entry)) (length (now (file .entry)))) (now (file .entry)) (now (out .entry)) ≡ record { answer = r; buffer = now (out .exit) } ⌝ }
+    ensures { λ r.
+        ⌜ writes (roomFault (now (out .entry)) (length (now (file .entry)))) (now (file .entry)) (now (out .entry))
+        ≡ record { answer = r; buffer = now (out .exit) } ⌝ }
 {
     let n = file.len();
     if out.len() < n {

@@ -41,7 +41,9 @@ returns-3 c =
     let at-field-if = c .before .before .before .before .before .before .before .before .before .before in
     let ready = at-field-if .field-if .ensures in (
       omega (arith, width .1, at-field-if .before .before .pre .2),
-      λ file part. task-done _ (_ ∷ _ ∷ []) (reads-more (ready file part) y (width .0) (reads-more (deadline file part) d refl no-fields)) _ (run file part),
+      λ file part.
+          let fields = reads-more (ready file part) y (width .0) (reads-more (deadline file part) d refl no-fields) in
+          task-done _ (_ ∷ _ ∷ []) fields _ (run file part),
     )
 
 pub read-task-spec : {M : Type 1} → statement M
