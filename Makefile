@@ -1,9 +1,12 @@
 # make test: everything that has to hold. 'rt ci' proves from nothing and tries the wrong programs; the library that the tests run over
-# is built of what it proved, so it comes before them. Its count is repeated as the last line.
-.PHONY: test fmt prove console compare test-compare samples bench
+# is built of what it proved, so it comes before them, two at a time. Its count is repeated as the last line.
+.PHONY: test tests fmt prove console compare test-compare samples bench
 
-test: fmt console prove limits samples compare test-compare test-tool
+test: fmt console prove
+	@$(MAKE) --no-print-directory -j2 --output-sync=target tests
 	@tail -n 1 build/ci.log
+
+tests: limits samples compare test-compare test-tool
 
 fmt:
 	rt fmt --check

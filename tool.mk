@@ -4,6 +4,7 @@
 SEQOPCHI_LIB ?= build/libseqopchi.a
 TOOL_SOURCES := $(sort $(wildcard tool/*.c))
 TOOL_HEADERS := $(wildcard tool/*.h) include/seqopchi.h
+LIMITS_SOURCES := $(sort $(wildcard tool/limits/*.c))
 TOOL_WARNINGS := -Wall -Wextra -Wpedantic -Werror
 TOOL_FLAGS := -std=c99 -D_XOPEN_SOURCE=700 -Iinclude $(TOOL_WARNINGS)
 TOOL_SANITIZE := -O1 -g -fsanitize=address,undefined -fno-sanitize-recover=all
@@ -12,12 +13,16 @@ DEMO_LOSS := 1@16
 tool: build/seqopchi
 
 # Proved and built anew when a source or a proof has changed: 'rt check' proves what
-# the library rests on, two crates at a time. The copy outlives 'rt ci', which removes target/.
+# the library rests on, two crates at a time. Two objects, so that what one of them calls
+# more than once is still inlined in the other. The copy outlives 'rt ci', which removes target/.
 build/libseqopchi.a: $(shell find crates -type f 2>/dev/null)
-	rt check writer judge planner replay
+	rt check writer asking replay
 	rt staticlib seqopchi
+	rt staticlib booking
 	@mkdir -p build
-	cp target/staticlib/libseqopchi.a $@
+	cd build && ar x ../target/staticlib/libseqopchi.a && ar x ../target/staticlib/libbooking.a
+	rm -f $@
+	ar rcs $@ build/seqopchi.o build/booking.o
 
 build/seqopchi: $(TOOL_SOURCES) $(TOOL_HEADERS) $(SEQOPCHI_LIB)
 	@mkdir -p build
@@ -39,14 +44,15 @@ build/header-checked: include/seqopchi.h
 limits: build/limits
 	build/limits
 
-build/limits: tool/limits/limits.c include/seqopchi.h $(SEQOPCHI_LIB)
+build/limits: $(LIMITS_SOURCES) tool/limits/limits.h include/seqopchi.h $(SEQOPCHI_LIB)
 	@mkdir -p build
-	$(CC) $(TOOL_SANITIZE) $(TOOL_FLAGS) tool/limits/limits.c $(SEQOPCHI_LIB) -o $@
+	$(CC) $(TOOL_SANITIZE) $(TOOL_FLAGS) $(LIMITS_SOURCES) $(SEQOPCHI_LIB) -o $@
 
 test-tool: build/seqopchi-sanitized build/header-checked
 	tool/test.sh build/seqopchi-sanitized
 
-# A class's oscilloscope captures: planned, listed, one node lost, two charts.
+# A class's oscilloscope captures: planned, listed, one node lost, one more fit asked
+# for, two charts.
 demo: build/seqopchi
 	@mkdir -p demo
 	@build/seqopchi pack examples/oscilloscope.txt -o demo/oscilloscope.job
@@ -55,6 +61,9 @@ demo: build/seqopchi
 	@echo
 	@build/seqopchi replay demo/oscilloscope.job demo/oscilloscope.plan \
 		--lose $(DEMO_LOSS)
+	@echo
+	@build/seqopchi ask demo/oscilloscope.job demo/oscilloscope.plan \
+		examples/one-more-fit.txt
 	@build/seqopchi chart demo/oscilloscope.job demo/oscilloscope.plan \
 		-o demo/plan.svg
 	@build/seqopchi chart demo/oscilloscope.job demo/oscilloscope.plan \

@@ -28,12 +28,12 @@ fn main() {
 
 fn link_library() {
     println!("cargo:rerun-if-env-changed=SEQOPCHI_LIB");
-    let folder = env::var("SEQOPCHI_LIB").unwrap_or_else(|_| "../target/staticlib".into());
+    let folder = env::var("SEQOPCHI_LIB").unwrap_or_else(|_| "../build".into());
     let archive = Path::new(&folder).join("libseqopchi.a");
     println!("cargo:rerun-if-changed={}", archive.display());
     let Ok(archive) = archive.canonicalize() else {
         panic!(
-            "no {}: write it with `rt staticlib seqopchi`, or set SEQOPCHI_LIB",
+            "no {}: `make build/libseqopchi.a` in the folder above makes it; or set SEQOPCHI_LIB",
             archive.display()
         );
     };

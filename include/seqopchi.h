@@ -1,43 +1,56 @@
-/* seqopchi.h: judge, planner and replay of rack plans, on byte buffers.
+/* seqopchi.h: judge, planner and replay of rack plans, and the booking of one more
+ * task, on byte buffers.
  *
  * A job file lists nodes, tasks and links. A plan file gives each task a
  * primary and a backup copy. Each number in a file is 4 bytes, unsigned, low
  * byte first; N is the job's task count and P its node count. In a job of version
  * 2 each task has a ready time, before its deadline in the file; in a job of
  * version 1 it has none and counts as ready at 0. A plan has version 1 for each job.
+ * The description of one more task is its entry as the job's version has it, a link
+ * count, and from and delay of each link to it, rising strictly by from. A booking is
+ * a description with four numbers behind it: primary node, primary start, backup
+ * node, backup start. Neither has a version of its own.
  *
  * POINTERS. These are the only conditions that a caller has to keep:
- * - A pointer is valid for reading (job, plan) or for reading and writing
- *   (out) of as many bytes as the length behind it says. The length of one
- *   buffer is at most PTRDIFF_MAX, as for any object in C.
+ * - A pointer is valid for reading (job, plan, task, booking) or for reading and
+ *   writing (out, out_job, out_plan) of as many bytes as the length behind it
+ *   says. The length of one buffer is at most PTRDIFF_MAX, as for any object in C.
+ * - places is valid for reading and writing of four numbers and aligned as a
+ *   uint32_t is.
  * - No pointer is null. With length 0 it may be any pointer that is not null;
  *   nothing is read or written through it.
- * - out overlaps neither job nor plan. job and plan may overlap each other.
+ * - What is written (out, places, out_job, out_plan) overlaps no buffer that is
+ *   read, and out_job and out_plan do not overlap each other. Buffers that are only
+ *   read may overlap.
  * - No other thread writes to a buffer during the call.
- * No pointer needs an alignment, and none is kept after the call. The functions
- * keep no state, so calls from several threads need no lock.
+ * No pointer but places needs an alignment, and none is kept after the call. The
+ * functions keep no state, so calls from several threads need no lock.
  *
  * RESULTS. Every function returns one 8-byte number for every content of its
  * buffers: 0 for success, otherwise a refusal with its number in the lowest 8
  * bits, its first place in the next 32 and its second place in the top 24. The
- * first fault in the order given at each function is the one returned. job and
- * plan are never written. On a refusal every byte of out keeps its value; on
- * success every byte of out behind the output keeps its value.
+ * first fault in the order given at each function is the one returned. What is
+ * read is never written. On a refusal every byte of each output keeps its value;
+ * on success every byte behind what is written there keeps its value.
  *
- * READING. "The faults of the job" and "the faults of the plan" below are these,
- * in file order, each with its byte offset from the start of that file as the
- * first place and 0 as the second. The result does not say which of the two files
- * is meant; seqopchi_plan with out_len 0 tells whether a job reads well.
+ * READING. "The faults of the job", "of the plan", "of the description" and "of the
+ * booking" below are these, in file order, each with its byte offset from the start
+ * of that buffer as the first place and 0 as the second. The result does not say
+ * which buffer is meant. seqopchi_plan with out_len 0 tells whether a job reads well;
+ * where seqopchi_judge gives 0, job and plan have no fault.
  *   1 short       fewer than 4 bytes are left for a number
  *   2 version     a job's version is not 1 or 2, or a plan's is not 1
  *   3 count       a count is outside its limits, or the plan's count is not N
  *   4 value       any other number is outside its limits; also a link's to
- *                 that is not above its from
- *   5 link order  a link is not above the one before (offset of its from);
- *                 only in a job, and found after the link's delay
- *   6 tail        bytes follow the last section (offset of the first)
- *   7 unable      a copy is planned on a node where its task has run time 0
- *                 (offset of that node); only in a plan
+ *                 that is not above its from. A from in a description is below N
+ *   5 link order  a link is not above the one before (offset of its from), by from
+ *                 and to in a job, by from in a description or booking; found
+ *                 after the link's delay
+ *   6 tail        bytes follow the last number (offset of the first)
+ *   7 unable      a copy is placed on a node where its task has run time 0
+ *                 (offset of that node); only in a plan or booking
+ * 2 arises in neither description nor booking. More links than tasks are no count
+ * fault there: up to 512 may be said, and the links then end in 1, 4 or 5.
  */
 #ifndef SEQOPCHI_H
 #define SEQOPCHI_H
@@ -62,9 +75,9 @@ extern "C" {
 /* Ready times, deadlines, run times, delays and starts. */
 #define SEQOPCHI_MAX_TIME 1000000
 
-/* Lengths in bytes of what is read and written. Those of a job go by its version:
- * the entry of a node (detect time, in each version) and of a task (ready time, from
- * version 2 on; deadline; run times), then the file. */
+/* Lengths in bytes of what is read and written. Those of a job, a description and a
+ * booking go by the job's version: the entry of a node (detect time, in each version)
+ * and of a task (ready time, from version 2 on; deadline; run times), then all. */
 #define SEQOPCHI_NODE_BYTES 4
 #define SEQOPCHI_TASK_BYTES(version, nodes) \
     (((version) >= 2 ? 8 : 4) + 4 * (nodes))
@@ -73,9 +86,20 @@ extern "C" {
      + SEQOPCHI_TASK_BYTES(version, nodes) * (tasks) + 12 * (links))
 #define SEQOPCHI_PLAN_BYTES(tasks) (8 + 16 * (tasks))
 #define SEQOPCHI_REPLAY_BYTES(tasks) (12 * (tasks))
+#define SEQOPCHI_DESCRIPTION_BYTES(version, nodes, links) \
+    (SEQOPCHI_TASK_BYTES(version, nodes) + 4 + 8 * (links))
+#define SEQOPCHI_BOOKING_BYTES(version, nodes, links) \
+    (SEQOPCHI_DESCRIPTION_BYTES(version, nodes, links) + 16)
 #define SEQOPCHI_MAX_JOB_BYTES 10832 /* of the newest version */
 #define SEQOPCHI_MAX_PLAN_BYTES SEQOPCHI_PLAN_BYTES(SEQOPCHI_MAX_TASKS)
 #define SEQOPCHI_MAX_REPLAY_BYTES SEQOPCHI_REPLAY_BYTES(SEQOPCHI_MAX_TASKS)
+/* The longest that read well, of the newest version: with a link from each task. */
+#define SEQOPCHI_MAX_DESCRIPTION_BYTES \
+    SEQOPCHI_DESCRIPTION_BYTES(SEQOPCHI_NEWEST_JOB_VERSION, SEQOPCHI_MAX_NODES, \
+                               SEQOPCHI_MAX_TASKS)
+#define SEQOPCHI_MAX_BOOKING_BYTES \
+    SEQOPCHI_BOOKING_BYTES(SEQOPCHI_NEWEST_JOB_VERSION, SEQOPCHI_MAX_NODES, \
+                           SEQOPCHI_MAX_TASKS)
 
 /* The number of a refusal, with its word and its places (first / second). */
 enum seqopchi_refusal {
@@ -98,7 +122,9 @@ enum seqopchi_refusal {
     SEQOPCHI_REFUSED_NO_BACKUP = 16,      /* no backup; task / task */
     SEQOPCHI_REFUSED_SHORT_BUFFER = 17,   /* short buffer; bytes needed / 0 */
     SEQOPCHI_REFUSED_NO_SUCH_NODE = 18,   /* no such node; that number / 0 */
-    SEQOPCHI_REFUSED_TOO_SOON = 19        /* too soon; task / task */
+    SEQOPCHI_REFUSED_TOO_SOON = 19,       /* too soon; task / task */
+    SEQOPCHI_REFUSED_FULL = 20,           /* full; new task number / 0 */
+    SEQOPCHI_REFUSED_STALE = 21           /* stale; task / task */
 };
 
 /* What became of a copy, as replay writes it. */
@@ -178,6 +204,51 @@ uint64_t seqopchi_replay_loss(const uint8_t *job, size_t job_len,
                               uint32_t node, uint32_t moment,
                               uint8_t *out, size_t out_len);
 
+/* Where one more task would go, as task N beside the copies of plan: the places that
+ * the planner would give it. Nothing is booked. In this order:
+ *   1 to 6          the faults of the job
+ *   1 to 4, 6, 7    the faults of the plan
+ *   8, 19, 9 to 14  the first broken rule, as seqopchi_judge gives it
+ *   1, 3 to 6       the faults of the description
+ *   20              full: N is 64, or the job's links and the new ones are more
+ *                   than 512; N / 0
+ *   15              no place for its primary; N / N
+ *   16              no place for its backup; N / N
+ *   0               places is primary node, primary start, backup node, backup start
+ * A booking of these places is then taken by seqopchi_commit with the same job and
+ * plan.
+ */
+uint64_t seqopchi_ask(const uint8_t *job, size_t job_len,
+                      const uint8_t *plan, size_t plan_len,
+                      const uint8_t *task, size_t task_len,
+                      uint32_t places[4]);
+
+/* Books one more task as task N, at the places of booking. In this order:
+ *   1 to 6          the faults of the job
+ *   1 to 4, 6, 7    the faults of the plan
+ *   8, 19, 9 to 14  the first broken rule, as seqopchi_judge gives it
+ *   1, 3 to 7       the faults of the booking
+ *   20              full: N is 64, or the job's links and the new ones are more
+ *                   than 512; N / 0
+ *   21              stale: a proposed copy breaks a rule beside the copies of plan;
+ *                   N / N
+ *   17              out_job_len is below the length of the longer job; that length / 0
+ *   17              out_plan_len is below 8 + 16 (N + 1); 8 + 16 (N + 1) / 0
+ *   0               out_job begins with the longer job, a file of the job's version
+ *                   with the new task last and all links in order; out_plan begins with
+ *                   the longer plan, 8 + 16 (N + 1) bytes, which seqopchi_judge
+ *                   passes for the longer job
+ * The longer job has SEQOPCHI_JOB_BYTES of the job's version and nodes, N + 1 tasks,
+ * and the job's links with the new ones. If plan is what seqopchi_plan writes for job
+ * and the places are those of seqopchi_ask, the longer plan is what it writes for the
+ * longer job.
+ */
+uint64_t seqopchi_commit(const uint8_t *job, size_t job_len,
+                         const uint8_t *plan, size_t plan_len,
+                         const uint8_t *booking, size_t booking_len,
+                         uint8_t *out_job, size_t out_job_len,
+                         uint8_t *out_plan, size_t out_plan_len);
+
 /* The parts of a result. */
 static inline unsigned seqopchi_number(uint64_t result)
 {
@@ -201,7 +272,7 @@ static inline const char *seqopchi_word(unsigned number)
         "done", "short", "version", "count", "value", "link order", "tail",
         "unable", "same node", "early", "late", "primary unfed",
         "backup unfed", "common loss", "overlap", "no primary", "no backup",
-        "short buffer", "no such node", "too soon"
+        "short buffer", "no such node", "too soon", "full", "stale"
     };
     return number < sizeof words / sizeof words[0] ? words[number] : "unknown";
 }

@@ -2,14 +2,15 @@
 #ifndef TOOL_COMMANDS_H
 #define TOOL_COMMANDS_H
 
-#include "files.h"
+#include "new_task.h"
 
 /* What stood on the command line behind the command's name. */
 struct options {
-    const char *path[2];
+    const char *path[3];
     int paths;
-    const char *output; /* "-" where none was given */
-    const char *job;    /* null where none was given */
+    const char *output;        /* "-" where none was given */
+    const char *second_output; /* of a command that has two, else null */
+    const char *job;           /* null where none was given */
     bool lose;
     uint32_t node, tick;
 };
@@ -22,6 +23,8 @@ int run_show(const struct options *o);
 int run_pack(const struct options *o);
 int run_unpack(const struct options *o);
 int run_chart(const struct options *o);
+int run_ask(const struct options *o);
+int run_commit(const struct options *o);
 
 /* A job, and a plan where there is one, as they stand in the files. */
 struct input {
@@ -34,6 +37,17 @@ int read_input(struct input *in, const struct options *o);
 /* The same, then asks the library whether they read well: 1 after a refusal. */
 int read_readable(struct input *in, const struct options *o);
 void free_input(struct input *in);
+
+/* A passed plan with its job, and one more task. */
+struct request {
+    struct input in;
+    struct new_task task;
+};
+
+/* Reads the three files, has the plan judged and packs a text: 0, 1 after a refusal,
+ * or 2 after a message. */
+int read_request(struct request *r, const struct options *o);
+void free_request(struct request *r);
 
 /* The run of a readable plan, from replay: three numbers for each task. */
 int replayed(struct file *run, const struct input *in, const struct options *o);

@@ -1,4 +1,4 @@
-/* What the number at a byte offset of a job or plan file is. */
+/* What the number at a byte offset of a job, a plan or one more task is. */
 #include "fields.h"
 
 #include "layout.h"
@@ -16,23 +16,31 @@ static struct field field(uint32_t low, uint32_t high, const char *name)
     return f;
 }
 
-static struct field task_field(const struct file *job, size_t at)
+/* So far behind the beginning of a task's entry. */
+static struct field entry_field(const struct file *job, size_t past, const char *whose)
 {
-    size_t row = task_at(job, 1) - task_at(job, 0);
-    uint32_t task = (uint32_t)((at - task_at(job, 0)) / row);
-    size_t deadline = deadline_at(job, task), runs = run_times_at(job, task);
+    size_t deadline = new_deadline_at(job), runs = new_run_times_at(job);
     struct field f = field(0, SEQOPCHI_MAX_TIME, "");
 
-    if (at >= runs) {
-        snprintf(f.name, sizeof f.name, "the run time of task %u on node %zu",
-                 (unsigned)task, (at - runs) / 4);
+    if (past >= runs) {
+        snprintf(f.name, sizeof f.name, "the run time of %s on node %zu", whose,
+                 (past - runs) / 4);
         return f;
     }
-    if (at == deadline)
+    if (past == deadline)
         f.low = SEQOPCHI_MIN_DEADLINE;
-    snprintf(f.name, sizeof f.name, "the %s of task %u",
-             at == deadline ? "deadline" : "ready time", (unsigned)task);
+    snprintf(f.name, sizeof f.name, "the %s of %s",
+             past == deadline ? "deadline" : "ready time", whose);
     return f;
+}
+
+static struct field task_field(const struct file *job, size_t at)
+{
+    size_t row = task_at(job, 1) - task_at(job, 0), past = at - task_at(job, 0);
+    char whose[32];
+
+    snprintf(whose, sizeof whose, "task %zu", past / row);
+    return entry_field(job, past % row, whose);
 }
 
 static struct field link_field(const struct file *job, size_t at)
@@ -73,20 +81,53 @@ struct field job_field(const struct file *job, size_t at)
     return link_field(job, at);
 }
 
-struct field plan_field(const struct file *job, size_t at)
+/* So far behind the beginning of the four numbers of a place. */
+static struct field place_field(const struct file *job, size_t past, const char *whose)
 {
     static const char *const part[] = {
         "primary node", "primary start", "backup node", "backup start"
     };
-    size_t column = (at - 8) % 16 / 4;
+    size_t column = past / 4;
     struct field f = field(0, SEQOPCHI_MAX_TIME, "");
+
+    if (column % 2 == 0)
+        f.high = job_nodes(job) - 1;
+    snprintf(f.name, sizeof f.name, "the %s of %s", part[column], whose);
+    return f;
+}
+
+struct field plan_field(const struct file *job, size_t at)
+{
+    char whose[32];
 
     if (at == 0)
         return field(SEQOPCHI_PLAN_VERSION, SEQOPCHI_PLAN_VERSION, "the version");
     if (at == 4)
         return field(job_tasks(job), job_tasks(job), "the task count");
-    if (column % 2 == 0)
-        f.high = job_nodes(job) - 1;
-    snprintf(f.name, sizeof f.name, "the %s of task %zu", part[column], (at - 8) / 16);
+    snprintf(whose, sizeof whose, "task %zu", (at - 8) / 16);
+    return place_field(job, (at - 8) % 16, whose);
+}
+
+static struct field new_link_field(const struct file *job, size_t at)
+{
+    size_t past = at - new_link_at(job, 0);
+    bool is_from = past % 8 == 0;
+    struct field f = field(0, is_from ? job_tasks(job) - 1 : SEQOPCHI_MAX_TIME, "");
+
+    snprintf(f.name, sizeof f.name, "the %s of link %zu", is_from ? "from" : "delay",
+             past / 8);
     return f;
+}
+
+struct field new_task_field(const struct file *job, const struct file *task, size_t at)
+{
+    size_t count = new_link_count_at(job);
+
+    if (at < count)
+        return entry_field(job, at, "the new task");
+    if (at == count)
+        return field(0, SEQOPCHI_MAX_LINKS, "the link count");
+    if (at < description_end(job, task))
+        return new_link_field(job, at);
+    return place_field(job, at - description_end(job, task), "the place");
 }

@@ -1,4 +1,4 @@
-/* What the number at a byte offset of a job or plan file is. */
+/* What the number at a byte offset of a job, a plan or one more task is. */
 #ifndef TOOL_FIELDS_H
 #define TOOL_FIELDS_H
 
@@ -14,5 +14,8 @@ struct field job_field(const struct file *job, size_t at);
 
 /* The same in a plan, behind a job that reads well. */
 struct field plan_field(const struct file *job, size_t at);
+
+/* The same in a description or booking, behind a job that reads well. */
+struct field new_task_field(const struct file *job, const struct file *task, size_t at);
 
 #endif

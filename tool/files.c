@@ -82,39 +82,50 @@ static mode_t final_mode(const char *path)
     return stat(path, &old) == 0 ? old.st_mode & 07777 : 0666 & ~mask;
 }
 
-/* Writes a file beside the target and moves it there: readers of the target
+/* A file that lies whole beside its target, to be moved there: readers of the target
  * see its old content or the whole new one. */
-static int replace(const char *path, const char *data, size_t length)
-{
-    size_t size = strlen(path) + sizeof ".XXXXXX";
-    char *temporary = allocated(size);
-    int out, fine, error;
+struct pending {
+    char *target, *temporary;
+    bool there; /* whether there is a temporary file */
+};
 
-    snprintf(temporary, size, "%s.XXXXXX", path);
-    out = mkstemp(temporary);
-    fine = out >= 0 && write_all(out, data, length)
-        && fchmod(out, final_mode(path)) == 0 && fsync(out) == 0;
-    error = errno;
-    if (out >= 0 && close(out) != 0 && fine) {
+static int write_temporary(int out, const struct output *o, const char *target)
+{
+    int fine = write_all(out, o->data, o->length)
+        && fchmod(out, final_mode(target)) == 0 && fsync(out) == 0;
+    int error = errno;
+
+    if (close(out) != 0 && fine) {
         fine = 0;
         error = errno;
     }
-    if (fine && rename(temporary, path) != 0) {
-        fine = 0;
-        error = errno;
-    }
-    if (!fine && out >= 0)
-        unlink(temporary);
-    free(temporary);
     errno = error;
     return fine;
 }
 
-/* A device or a pipe is written to as it is: it must not be replaced. */
-static int write_through(const char *path, const char *data, size_t length)
+/* The file behind a symbolic link is replaced, not the link. */
+static int write_beside(struct pending *p, const struct output *o)
 {
-    int out = open(path, O_WRONLY);
-    int fine = out >= 0 && write_all(out, data, length);
+    char *real = realpath(o->path, NULL);
+    size_t size = strlen(real ? real : o->path) + 1;
+    int out;
+
+    p->target = allocated(size);
+    snprintf(p->target, size, "%s", real ? real : o->path);
+    free(real);
+    size += sizeof ".XXXXXX" - 1;
+    p->temporary = allocated(size);
+    snprintf(p->temporary, size, "%s.XXXXXX", p->target);
+    out = mkstemp(p->temporary);
+    p->there = out >= 0;
+    return p->there && write_temporary(out, o, p->target);
+}
+
+/* A device or a pipe is written to as it is: it must not be replaced. */
+static int write_through(const struct output *o)
+{
+    int out = open(o->path, O_WRONLY);
+    int fine = out >= 0 && write_all(out, o->data, o->length);
     int error = errno;
 
     if (out >= 0)
@@ -123,29 +134,69 @@ static int write_through(const char *path, const char *data, size_t length)
     return fine;
 }
 
-/* The file behind a symbolic link is replaced, not the link. */
-static int replace_behind_links(const char *path, const char *data, size_t length)
+static int prepare(struct pending *p, const struct output *o)
 {
-    char *real = realpath(path, NULL);
-    int fine = replace(real ? real : path, data, length);
+    struct stat old;
 
-    free(real);
-    return fine;
+    if (is_dash(o->path))
+        return write_all(STDOUT_FILENO, o->data, o->length);
+    if (stat(o->path, &old) == 0 && !S_ISREG(old.st_mode))
+        return write_through(o);
+    return write_beside(p, o);
+}
+
+static int move(struct pending *p)
+{
+    if (p->there && rename(p->temporary, p->target) != 0)
+        return 0;
+    p->there = false;
+    return 1;
+}
+
+static void drop(struct pending *p)
+{
+    if (p->there)
+        unlink(p->temporary);
+    free(p->temporary);
+    free(p->target);
+}
+
+static int write_outputs(const struct output *outputs, int count)
+{
+    struct pending pending[2] = { { NULL, NULL, false }, { NULL, NULL, false } };
+    int fine = 1, at = 0, error;
+
+    for (int i = 0; i < 2 * count && fine; i++) {
+        at = i % count;
+        fine = i < count ? prepare(&pending[at], &outputs[at]) : move(&pending[at]);
+    }
+    error = errno;
+    for (int i = 0; i < count; i++)
+        drop(&pending[i]);
+    if (fine)
+        return 0;
+    return failed("cannot write '%s': %s", is_dash(outputs[at].path)
+                  ? "standard output" : outputs[at].path, strerror(error));
+}
+
+int files_write(const struct output outputs[2])
+{
+    return write_outputs(outputs, 2);
 }
 
 int file_write(const char *path, const void *data, size_t length)
 {
-    struct stat old;
-    int fine;
+    struct output one = { path, data, length };
 
-    if (is_dash(path))
-        fine = write_all(STDOUT_FILENO, data, length);
-    else if (stat(path, &old) == 0 && !S_ISREG(old.st_mode))
-        fine = write_through(path, data, length);
-    else
-        fine = replace_behind_links(path, data, length);
-    if (fine)
-        return 0;
-    return failed("cannot write '%s': %s",
-                  is_dash(path) ? "standard output" : path, strerror(errno));
+    return write_outputs(&one, 1);
+}
+
+bool same_file(const char *left, const char *right)
+{
+    struct stat l, r;
+
+    if (strcmp(left, right) == 0)
+        return true;
+    return stat(left, &l) == 0 && stat(right, &r) == 0 && l.st_dev == r.st_dev
+        && l.st_ino == r.st_ino;
 }

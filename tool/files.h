@@ -23,7 +23,21 @@ bool is_dash(const char *path);
 int file_read(struct file *f, const char *path, size_t most);
 void file_free(struct file *f);
 
-/* 0, or 2 after a message. */
+/* What is written to a path. */
+struct output {
+    const char *path;
+    const void *data;
+    size_t length;
+};
+
+/* Two outputs, both or none: neither old file is replaced before both new ones lie
+ * whole beside them. 0, or 2 after a message. */
+int files_write(const struct output outputs[2]);
+
+/* One output: the same. */
 int file_write(const char *path, const void *data, size_t length);
+
+/* Whether two paths are the same, or lead to one file that is there. */
+bool same_file(const char *left, const char *right);
 
 #endif

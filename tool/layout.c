@@ -1,4 +1,5 @@
-/* Where each number of a job or plan file stands, by the version of the job. */
+/* Where each number of a job, a plan or one more task stands, by the version of the
+ * job. */
 #include "layout.h"
 
 #include "seqopchi.h"
@@ -113,6 +114,42 @@ struct link job_link(const struct file *job, uint32_t link)
     l.to = number_at(job, at + 4);
     l.delay = number_at(job, at + 8);
     return l;
+}
+
+size_t new_deadline_at(const struct file *job)
+{
+    return deadline_at(job, 0) - task_at(job, 0);
+}
+
+size_t new_run_times_at(const struct file *job)
+{
+    return run_times_at(job, 0) - task_at(job, 0);
+}
+
+size_t new_link_count_at(const struct file *job)
+{
+    return task_at(job, 1) - task_at(job, 0);
+}
+
+size_t new_link_at(const struct file *job, uint32_t link)
+{
+    return new_link_count_at(job) + 4 + 8 * (size_t)link;
+}
+
+uint32_t new_links(const struct file *job, const struct file *task)
+{
+    return number_at(task, new_link_count_at(job));
+}
+
+size_t description_end(const struct file *job, const struct file *task)
+{
+    return new_link_at(job, new_links(job, task));
+}
+
+bool has_place(const struct file *job, const struct file *task)
+{
+    return task->length >= new_link_at(job, 0)
+        && task->length > description_end(job, task);
 }
 
 struct copy plan_copy(const struct file *job, const struct file *plan,

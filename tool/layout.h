@@ -1,6 +1,6 @@
-/* Where each number of a job or plan file stands, by the version of the job. The
- * library has said that the file reads well, or that the part before the number
- * read is without fault. */
+/* Where each number of a job, a plan or one more task stands, by the version of the
+ * job. The library has said that the file reads well, or that the part before the
+ * number read is without fault. */
 #ifndef TOOL_LAYOUT_H
 #define TOOL_LAYOUT_H
 
@@ -41,6 +41,18 @@ size_t deadline_at(const struct file *job, uint32_t task);
 size_t run_times_at(const struct file *job, uint32_t task);
 size_t link_count_at(const struct file *job);
 size_t link_at(const struct file *job, uint32_t link);
+
+/* The same in a description, whose entry of the task stands first, and its end, where
+ * the place of a booking begins. */
+size_t new_deadline_at(const struct file *job);
+size_t new_run_times_at(const struct file *job);
+size_t new_link_count_at(const struct file *job);
+size_t new_link_at(const struct file *job, uint32_t link);
+uint32_t new_links(const struct file *job, const struct file *task);
+size_t description_end(const struct file *job, const struct file *task);
+
+/* Whether bytes follow the description, in a file that may have faults. */
+bool has_place(const struct file *job, const struct file *task);
 
 struct copy plan_copy(const struct file *job, const struct file *plan,
                       uint32_t task, int backup);

@@ -1,4 +1,4 @@
-/* seqopchi: the command line over judge, planner and replay. */
+/* seqopchi: the command line over judge, planner, replay and booking. */
 #include "commands.h"
 
 #include "seqopchi.h"
@@ -8,9 +8,9 @@
 #include <stdio.h>
 #include <string.h>
 
-#define TOOL_VERSION "1.1"
+#define TOOL_VERSION "1.2"
 
-enum { OUTPUT = 1, OUTPUT_DUE = 2, LOSS = 4, JOB = 8 };
+enum { OUTPUT = 1, OUTPUT_DUE = 2, LOSS = 4, JOB = 8, TWO_OUTPUTS = 16 };
 
 struct command {
     const char *name;
@@ -42,20 +42,32 @@ static const struct command commands[] = {
       "and the copies of each node in order of time.\n" },
     { "pack", run_pack, 1, 1, OUTPUT | OUTPUT_DUE | JOB,
       "pack TEXT -o FILE [--job JOB]",
-      "make a job or plan file from text",
+      "make a job, plan or task file from text",
       "Writes the file that the text stands for; its first word says whether it\n"
-      "is a job or a plan, its second of which version. A job must read well, and\n"
-      "so must a plan if its job is named by --job. The text form is described in\n"
-      "tool/TEXT.md.\n" },
-    { "unpack", run_unpack, 1, 2, OUTPUT, "unpack JOB [PLAN] [-o TEXT]",
-      "make text from a job or plan file",
-      "Prints the text form of the job, in its own version, or, if a plan is\n"
-      "given, of the plan.\n" },
+      "is a job, a plan or a task. A job must read well, and so must a plan if its\n"
+      "job is named by --job. For a task --job is due. The text form is described\n"
+      "in tool/TEXT.md.\n" },
+    { "unpack", run_unpack, 1, 3, OUTPUT, "unpack JOB [PLAN [TASK]] [-o TEXT]",
+      "make text from a job, plan or task file",
+      "Prints the text form of the last file that is given; that of a job in its\n"
+      "own version. With a task the plan must pass the judge.\n" },
     { "chart", run_chart, 2, 2, OUTPUT | OUTPUT_DUE | LOSS,
       "chart JOB PLAN [--lose NODE@TICK] -o FILE.svg",
       "draw a plan, or its run with the loss of a node",
       "Draws a lane for each node with its copies, deadlines and ready times. With\n"
       "--lose it draws the run: what was finished, cut and not started.\n" },
+    { "ask", run_ask, 3, 3, OUTPUT, "ask JOB PLAN TASK",
+      "ask where one more task would go",
+      "Prints the places that the planner would give one more task beside a plan\n"
+      "that passes the judge. Nothing is booked. TASK is a description, as text or\n"
+      "packed. The last line, 'place ..', makes a booking of its text for commit.\n" },
+    { "commit", run_commit, 3, 3, OUTPUT | OUTPUT_DUE | TWO_OUTPUTS,
+      "commit JOB PLAN TASK -o JOB2 PLAN2",
+      "book one more task",
+      "Books one more task beside a plan that passes the judge: writes the longer\n"
+      "job and the longer plan, both or none, and prints what was booked. TASK is a\n"
+      "description or a booking, as text or packed; without a place it gets the one\n"
+      "that ask would print. JOB2 and PLAN2 may be JOB and PLAN, and neither is -.\n" },
 };
 
 enum { COMMANDS = sizeof commands / sizeof commands[0] };
@@ -121,6 +133,16 @@ static bool parse_loss(struct options *o, const char *word)
         && parse_number(sign + 1, strlen(sign + 1), &o->tick);
 }
 
+/* Behind -o, where a command has two outputs. */
+static int take_second_output(const struct command *c, struct options *o,
+                              const char *word)
+{
+    if (!word)
+        return wrong_usage(c, "a second file name is missing behind", "-o");
+    o->second_output = word;
+    return 0;
+}
+
 /* The option at words[0], whose value is words[1]: 0, or 2 after a message. */
 static int take_option(const struct command *c, struct options *o, char **words)
 {
@@ -134,6 +156,8 @@ static int take_option(const struct command *c, struct options *o, char **words)
         return wrong_usage(c, "a value is missing behind", words[0]);
     if ((is_output && o->output) || (is_loss && o->lose) || (is_job && o->job))
         return wrong_usage(c, "given twice:", words[0]);
+    if (is_output && c->takes & TWO_OUTPUTS && take_second_output(c, o, words[2]))
+        return 2;
     if (is_output)
         o->output = words[1];
     else if (is_job)
@@ -151,23 +175,41 @@ static int take_path(const struct command *c, struct options *o, const char *wor
     return 0;
 }
 
+static int dashes(const struct options *o)
+{
+    int count = o->job && is_dash(o->job);
+
+    for (int i = 0; i < o->paths; i++)
+        count += is_dash(o->path[i]);
+    return count;
+}
+
+/* What was booked is told on standard output. */
+static int check_two_outputs(const struct command *c, const struct options *o)
+{
+    if (is_dash(o->output) || is_dash(o->second_output))
+        return wrong_usage(c, "standard output is none of the two files", NULL);
+    if (same_file(o->output, o->second_output))
+        return wrong_usage(c, "the two files are one:", o->second_output);
+    return 0;
+}
+
 static int check_options(const struct command *c, struct options *o)
 {
     if (o->paths < c->least)
         return wrong_usage(c, "a file name is missing", NULL);
     if (!o->output && c->takes & OUTPUT_DUE)
         return wrong_usage(c, "-o FILE is missing", NULL);
-    if (is_dash(o->path[0]) && ((o->paths > 1 && is_dash(o->path[1]))
-                                || (o->job && is_dash(o->job))))
+    if (dashes(o) > 1)
         return wrong_usage(c, "standard input can be only one of the files", NULL);
     if (!o->output)
         o->output = "-";
-    return 0;
+    return o->second_output ? check_two_outputs(c, o) : 0;
 }
 
 static int run_command(const struct command *c, char **words)
 {
-    struct options o = { { NULL, NULL }, 0, NULL, NULL, false, 0, 0 };
+    struct options o = { { NULL, NULL, NULL }, 0, NULL, NULL, NULL, false, 0, 0 };
     bool options_end = false;
     int status = 0;
 
@@ -179,7 +221,7 @@ static int run_command(const struct command *c, char **words)
         else if (strcmp(*words, "--") == 0)
             options_end = true;
         else if ((status = take_option(c, &o, words)) == 0)
-            words++;
+            words += o.second_output ? 2 : 1; /* -o is such a command's only option */
     }
     if (status == 0)
         status = check_options(c, &o);

@@ -1,53 +1,32 @@
-/* pack: a job or plan file from its text form (TEXT.md). */
+/* pack: a job, a plan or one more task from its text form (TEXT.md). */
+#include "pack.h"
+
 #include "commands.h"
-
 #include "layout.h"
+#include "new_task.h"
 #include "refusal.h"
-#include "text.h"
-
-#include <stdlib.h>
-
-enum { TEXT_LIMIT = 1 << 20 }; /* some twenty times the longest job's text */
-
-/* One section of a file, and the line that each of its numbers stands on. */
-struct section {
-    struct buffer numbers, lines;
-    size_t entries;
-};
 
 struct job_text {
     uint32_t version;
     struct section nodes, tasks, links;
 };
 
-static void add(struct section *s, uint32_t value, unsigned line)
-{
-    buffer_number(&s->numbers, value);
-    buffer_add(&s->lines, &line, sizeof line);
-}
+/* What is packed, and the job beside it where one is named. */
+enum kind { JOB_TEXT, PLAN_TEXT, TASK_TEXT };
 
-/* Puts a section behind its count, which stands on no line of the text. */
-static void append(struct section *to, const struct section *from)
-{
-    add(to, (uint32_t)from->entries, 0);
-    if (from->entries == 0)
-        return;
-    buffer_add(&to->numbers, from->numbers.data, from->numbers.length);
-    buffer_add(&to->lines, from->lines.data, from->lines.length);
-}
-
-static void free_section(struct section *s)
-{
-    buffer_free(&s->numbers);
-    buffer_free(&s->lines);
-}
+struct packing {
+    enum kind kind;
+    struct section file;
+    struct input beside;
+    bool named;
+};
 
 /* node K detect TICKS */
 static void pack_node(struct text *t, struct section *nodes)
 {
     take_index(t, "node", nodes->entries);
     take_word(t, "detect");
-    add(nodes, take_number(t, "the detect time"), t->line);
+    section_add(nodes, take_number(t, "the detect time"), t->line);
     take_line_end(t);
     nodes->entries++;
 }
@@ -57,59 +36,60 @@ static void pack_ready(struct text *t, struct section *tasks, uint32_t version)
 {
     if (has_ready(version)) {
         take_word(t, "ready");
-        add(tasks, take_number(t, "the ready time"), t->line);
+        section_add(tasks, take_number(t, "the ready time"), t->line);
     } else if (took_word(t, "ready")) {
         text_fault(t, "expected 'deadline', found 'ready': tasks have a ready time "
                    "from 'job 2' on");
     }
 }
 
-/* task K ready TICK deadline TICK run TICKS.., one for each node; - is 0 */
-static void pack_task(struct text *t, struct job_text *job)
+/* One run time for each node; - is 0. */
+void pack_entry(struct text *t, struct section *to, uint32_t version, size_t nodes)
 {
-    struct section *tasks = &job->tasks;
-
-    take_index(t, "task", tasks->entries);
-    pack_ready(t, tasks, job->version);
+    pack_ready(t, to, version);
     take_word(t, "deadline");
-    add(tasks, take_number(t, "the deadline"), t->line);
+    section_add(to, take_number(t, "the deadline"), t->line);
     take_word(t, "run");
-    for (size_t node = 0; node < job->nodes.entries && !t->wrong; node++) {
+    for (size_t node = 0; node < nodes && !t->wrong; node++) {
         if (took_word(t, "-"))
-            add(tasks, 0, t->line);
+            section_add(to, 0, t->line);
         else
-            add(tasks, take_number(t, "a run time for each node"), t->line);
+            section_add(to, take_number(t, "a run time for each node"), t->line);
     }
     take_line_end(t);
-    tasks->entries++;
+}
+
+/* task K and its entry */
+static void pack_task(struct text *t, struct job_text *job)
+{
+    take_index(t, "task", job->tasks.entries);
+    pack_entry(t, &job->tasks, job->version, job->nodes.entries);
+    job->tasks.entries++;
 }
 
 /* link FROM to TO delay TICKS */
 static void pack_link(struct text *t, struct section *links)
 {
-    add(links, take_number(t, "the task that the link comes from"), t->line);
+    section_add(links, take_number(t, "the task that the link comes from"), t->line);
     take_word(t, "to");
-    add(links, take_number(t, "the task that the link goes to"), t->line);
+    section_add(links, take_number(t, "the task that the link goes to"), t->line);
     take_word(t, "delay");
-    add(links, take_number(t, "the delay"), t->line);
+    section_add(links, take_number(t, "the delay"), t->line);
     take_line_end(t);
     links->entries++;
 }
 
-/* task K primary NODE at START backup NODE at START */
-static void pack_place(struct text *t, struct section *places)
+void pack_copies(struct text *t, struct section *to)
 {
     static const char *const copy[] = { "primary", "backup" };
 
-    take_index(t, "task", places->entries);
     for (int i = 0; i < 2; i++) {
         take_word(t, copy[i]);
-        add(places, take_number(t, "a node"), t->line);
+        section_add(to, take_number(t, "a node"), t->line);
         take_word(t, "at");
-        add(places, take_number(t, "a start"), t->line);
+        section_add(to, take_number(t, "a start"), t->line);
     }
     take_line_end(t);
-    places->entries++;
 }
 
 /* The sections stand in the file's order: no line of an earlier one comes back. */
@@ -139,106 +119,145 @@ static void pack_job(struct text *t, struct section *file, uint32_t version)
     job.version = version;
     while (next_line(t))
         pack_job_line(t, &job);
-    append(file, &job.nodes);
-    append(file, &job.tasks);
-    append(file, &job.links);
-    free_section(&job.nodes);
-    free_section(&job.tasks);
-    free_section(&job.links);
+    section_append(file, &job.nodes);
+    section_append(file, &job.tasks);
+    section_append(file, &job.links);
+    section_free(&job.nodes);
+    section_free(&job.tasks);
+    section_free(&job.links);
 }
 
+/* task K and its copies */
 static void pack_plan(struct text *t, struct section *file)
 {
     struct section places = { 0 };
 
     while (next_line(t)) {
         take_word(t, "task");
-        pack_place(t, &places);
+        take_index(t, "task", places.entries);
+        pack_copies(t, &places);
+        places.entries++;
     }
-    append(file, &places);
-    free_section(&places);
+    section_append(file, &places);
+    section_free(&places);
 }
 
-/* The first line says which of the two it is: job VERSION or plan VERSION. */
-static bool pack_text(struct text *t, struct section *file)
+static enum kind take_kind(struct text *t)
 {
-    bool is_job;
+    if (!next_line(t))
+        text_fault(t, "expected 'job', 'plan' or 'task', but the text ends");
+    else if (took_word(t, "job"))
+        return JOB_TEXT;
+    else if (took_word(t, "plan"))
+        return PLAN_TEXT;
+    else if (!took_word(t, "task"))
+        text_fault(t, "expected 'job', 'plan' or 'task' as the first word");
+    return TASK_TEXT;
+}
+
+/* A task is taken apart by the version and the nodes of its job. */
+static int read_beside(struct packing *p, const struct options *o, const char *name)
+{
+    struct options one = { { o->job, NULL, NULL }, 1, "-", NULL, NULL, false, 0, 0 };
+    uint64_t result;
+    int status;
+
+    if (p->kind == JOB_TEXT && o->job)
+        return failed("'%s' is a job: --job goes with a plan or a task", name);
+    if (p->kind == TASK_TEXT && !o->job)
+        return failed("'%s' describes a task: --job JOB is missing", name);
+    if (!o->job)
+        return 0;
+    status = read_input(&p->beside, &one);
+    if (status)
+        return status;
+    p->named = true;
+    result = p->kind == TASK_TEXT ? ask_job(&p->beside.job) : 0;
+    return result ? refused(result, &p->beside.job, NULL) : 0;
+}
+
+/* Behind the first word: that of a job or plan is followed by the version. */
+static void pack_text(struct text *t, struct packing *p)
+{
     uint32_t version;
 
-    if (!next_line(t)) {
-        text_fault(t, "expected 'job' or 'plan', but the text ends");
-        return false;
+    if (p->kind == TASK_TEXT) {
+        pack_new_task(t, &p->file, &p->beside.job);
+        return;
     }
-    is_job = took_word(t, "job");
-    if (!is_job && !took_word(t, "plan"))
-        text_fault(t, "expected 'job' or 'plan' as the first word");
     version = take_number(t, "the version");
-    add(file, version, t->line);
+    section_add(&p->file, version, t->line);
     take_line_end(t);
-    if (is_job)
-        pack_job(t, file, version);
+    if (p->kind == JOB_TEXT)
+        pack_job(t, &p->file, version);
     else
-        pack_plan(t, file);
-    return is_job;
+        pack_plan(t, &p->file);
+}
+
+/* The library reads a task behind a passed plan: that is the planner's here. If it has
+ * none for the job, ask and commit will tell. */
+static int ask_packed_task(const struct file *job, const struct file *packed)
+{
+    uint8_t bytes[SEQOPCHI_MAX_PLAN_BYTES];
+    struct file plan = { "the plan", bytes, 0, NULL };
+    uint64_t result = seqopchi_plan(job->data, job->length, bytes, sizeof bytes);
+
+    if (result)
+        return 0;
+    plan.length = SEQOPCHI_PLAN_BYTES(job_tasks(job));
+    result = ask_new_task(job, &plan, packed);
+    return result ? refused_task(result, job, &plan, packed) : 0;
 }
 
 /* The refusal of what was packed, or 0. A plan without its job is not asked about:
  * the judge will be. */
-static int ask_packed(const struct options *o, const struct file *packed, bool is_job)
+static int ask_packed(const struct packing *p, const struct file *packed)
 {
-    struct options one = { { o->job, NULL }, 1, "-", NULL, false, 0, 0 };
-    struct input in;
+    const struct file *job = &p->beside.job;
     uint64_t result;
-    int status;
 
-    if (is_job) {
+    if (p->kind == JOB_TEXT) {
         result = ask_job(packed);
         return result ? refused(result, packed, NULL) : 0;
     }
-    if (!o->job)
-        return 0;
-    status = read_input(&in, &one);
-    if (status)
-        return status;
-    result = ask_files(&in.job, packed);
-    if (result)
-        status = refused(result, &in.job, packed);
-    free_input(&in);
-    return status;
+    if (p->kind == TASK_TEXT)
+        return ask_packed_task(job, packed);
+    result = p->named ? ask_files(job, packed) : 0;
+    return result ? refused(result, job, packed) : 0;
 }
 
-static int write_packed(const struct options *o, const struct text *t,
-                        const struct section *file, bool is_job)
+static int pack_source(struct packing *p, const struct options *o,
+                       const struct file *source)
 {
+    struct text text = text_of(source);
     struct file packed;
     int status;
 
-    packed.name = t->name;
-    packed.data = (uint8_t *)file->numbers.data;
-    packed.length = file->numbers.length;
-    packed.lines = (const unsigned *)(const void *)file->lines.data;
-    if (is_job && o->job)
-        return failed("'%s' is a job: --job goes with a plan", t->name);
-    status = ask_packed(o, &packed, is_job);
+    p->kind = take_kind(&text);
+    status = text.wrong ? 2 : read_beside(p, o, source->name);
+    if (status)
+        return status;
+    pack_text(&text, p);
+    if (text.wrong)
+        return 2;
+    packed = section_file(&p->file, source->name);
+    status = ask_packed(p, &packed);
     return status ? status : file_write(o->output, packed.data, packed.length);
 }
 
 int run_pack(const struct options *o)
 {
     struct file source;
-    struct section file = { 0 };
-    struct text text;
-    bool is_job;
+    struct packing packing = { 0 };
     int status = file_read(&source, o->path[0], TEXT_LIMIT + 1);
 
-    if (status == 0 && source.length > TEXT_LIMIT)
-        status = failed("'%s' is longer than %d bytes", source.name, TEXT_LIMIT);
-    if (status == 0) {
-        text = text_of(&source);
-        is_job = pack_text(&text, &file);
-        status = text.wrong ? 2 : write_packed(o, &text, &file, is_job);
-    }
-    free_section(&file);
+    if (status == 0)
+        status = check_text_length(&source);
+    if (status == 0)
+        status = pack_source(&packing, o, &source);
+    if (packing.named)
+        free_input(&packing.beside);
+    section_free(&packing.file);
     file_free(&source);
     return status;
 }

@@ -25,6 +25,23 @@ uint64_t ask_files(const struct file *job, const struct file *plan)
     return seqopchi_number(result) == SEQOPCHI_REFUSED_SHORT_BUFFER ? 0 : result;
 }
 
+/* Behind the reading come other refusals: full, no place, stale, short buffer. */
+uint64_t ask_new_task(const struct file *job, const struct file *plan,
+                      const struct file *task)
+{
+    uint8_t none = 0;
+    uint32_t places[4];
+    uint64_t result;
+
+    if (has_place(job, task))
+        result = seqopchi_commit(job->data, job->length, plan->data, plan->length,
+                                 task->data, task->length, &none, 0, &none, 0);
+    else
+        result = seqopchi_ask(job->data, job->length, plan->data, plan->length,
+                              task->data, task->length, places);
+    return seqopchi_number(result) < SEQOPCHI_REFUSED_SAME_NODE ? result : 0;
+}
+
 /* "byte 12 of 'x.job', the deadline of task 0"; in a packed text the line comes
  * first, except for a count, which stands on none. */
 static void add_place(struct buffer *b, const struct file *f, uint32_t at,
@@ -64,24 +81,54 @@ static void add_link_order(struct buffer *b, const struct file *job, uint32_t at
                  (unsigned)before.from, (unsigned)before.to);
 }
 
-/* 1 to 7: the first place is a byte offset in f. */
-static void add_fault(struct buffer *b, uint64_t result, const struct file *job,
-                      const struct file *f)
+/* The same in a description, whose links all go to the new task. */
+static void add_new_link_order(struct buffer *b, const struct file *job,
+                               const struct file *task, uint32_t at)
 {
-    uint32_t at = seqopchi_first(result);
-    unsigned number = seqopchi_number(result);
-    struct field field;
+    char what[40];
 
-    if (number == SEQOPCHI_REFUSED_TAIL) {
+    snprintf(what, sizeof what, "link %zu", (at - new_link_at(job, 0)) / 8);
+    add_place(b, task, at, what);
+    buffer_print(b, ", from %u, does not rise above the link before, from %u",
+                 (unsigned)number_at(task, at), (unsigned)number_at(task, at - 8));
+}
+
+/* What a call was given; plan and task are null where there is none. */
+struct given {
+    const struct file *job, *plan, *task;
+};
+
+/* Whether a booking was given to ask, for which its place is a tail. */
+static bool is_place(const struct given *g, const struct file *f, uint32_t at)
+{
+    return f == g->task && at == description_end(g->job, f) && f->length == at + 16;
+}
+
+static void add_tail(struct buffer *b, const struct given *g, const struct file *f,
+                     uint32_t at)
+{
+    if (!is_place(g, f, at)) {
         buffer_print(b, "byte %u of '%s' follows the last section, where the file "
                      "must end", (unsigned)at, f->name);
         return;
     }
-    if (number == SEQOPCHI_REFUSED_LINK_ORDER) {
-        add_link_order(b, job, at);
-        return;
-    }
-    field = f == job ? job_field(job, at) : plan_field(job, at);
+    add_place(b, f, at, "the place");
+    buffer_print(b, ", is for commit; ask takes a description without one");
+}
+
+static struct field field_at(const struct given *g, const struct file *f, uint32_t at)
+{
+    if (f == g->task)
+        return new_task_field(g->job, f, at);
+    return f == g->job ? job_field(f, at) : plan_field(g->job, at);
+}
+
+/* Of a number that is not within its limits, or a node that cannot run the task. */
+static void add_value(struct buffer *b, unsigned number, const struct given *g,
+                      const struct file *f, uint32_t at)
+{
+    struct field field = field_at(g, f, at);
+
     if (number == SEQOPCHI_REFUSED_SHORT) {
         buffer_print(b, "'%s' has fewer than 4 bytes left at byte %u, for %s",
                      f->name, (unsigned)at, field.name);
@@ -93,6 +140,31 @@ static void add_fault(struct buffer *b, uint64_t result, const struct file *job,
         buffer_print(b, ", a node that cannot run the task (run time 0)");
     else
         add_limits(b, &field);
+}
+
+/* The library reads job, plan and task in turn. */
+static const struct file *faulty(const struct given *g)
+{
+    if (!g->plan || ask_job(g->job))
+        return g->job;
+    return !g->task || ask_files(g->job, g->plan) ? g->plan : g->task;
+}
+
+/* 1 to 7: the first place is a byte offset in the file at fault. */
+static void add_fault(struct buffer *b, uint64_t result, const struct given *g)
+{
+    uint32_t at = seqopchi_first(result);
+    unsigned number = seqopchi_number(result);
+    const struct file *f = faulty(g);
+
+    if (number == SEQOPCHI_REFUSED_TAIL)
+        add_tail(b, g, f, at);
+    else if (number != SEQOPCHI_REFUSED_LINK_ORDER)
+        add_value(b, number, g, f, at);
+    else if (f == g->task)
+        add_new_link_order(b, g->job, f, at);
+    else
+        add_link_order(b, g->job, at);
 }
 
 /* The refusals that name tasks, by number: the first task stands behind head, the
@@ -123,6 +195,9 @@ static const struct {
     { "no node has a place for the backup of task ", "", NULL },
     [SEQOPCHI_REFUSED_TOO_SOON] =
     { "the primary of task ", " starts before the task's ready time", NULL },
+    [SEQOPCHI_REFUSED_STALE] =
+    { "the place proposed for task ", " breaks a rule beside the copies held; ask "
+      "again", NULL },
 };
 
 static bool names_tasks(unsigned number)
@@ -148,29 +223,56 @@ static void add_no_such_node(struct buffer *b, const struct file *job, uint32_t 
                  (unsigned)node, (unsigned)job_nodes(job) - 1);
 }
 
-void refusal_text(struct buffer *b, uint64_t result,
-                  const struct file *job, const struct file *plan)
+static void add_full(struct buffer *b, const struct given *g, uint32_t number)
+{
+    if (number >= SEQOPCHI_MAX_TASKS)
+        buffer_print(b, "the job has %u tasks, and no job has more", (unsigned)number);
+    else
+        buffer_print(b, "with task %u the job would have %u links, and no job has more "
+                     "than %d", (unsigned)number,
+                     (unsigned)(job_links(g->job) + new_links(g->job, g->task)),
+                     SEQOPCHI_MAX_LINKS);
+}
+
+static void add_refusal(struct buffer *b, uint64_t result, const struct given *g)
 {
     unsigned number = seqopchi_number(result);
     uint32_t first = seqopchi_first(result);
 
     buffer_print(b, "refused %u (%s): ", number, seqopchi_word(number));
     if (number < SEQOPCHI_REFUSED_SAME_NODE)
-        add_fault(b, result, job, plan && ask_job(job) == 0 ? plan : job);
+        add_fault(b, result, g);
     else if (names_tasks(number))
         add_broken_rule(b, result);
     else if (number == SEQOPCHI_REFUSED_NO_SUCH_NODE)
-        add_no_such_node(b, job, first);
+        add_no_such_node(b, g->job, first);
+    else if (number == SEQOPCHI_REFUSED_FULL)
+        add_full(b, g, first);
     else
         buffer_print(b, "the output needs %u bytes", (unsigned)first);
 }
 
-int refused(uint64_t result, const struct file *job, const struct file *plan)
+void refusal_text(struct buffer *b, uint64_t result,
+                  const struct file *job, const struct file *plan)
 {
+    struct given given = { job, plan, NULL };
+
+    add_refusal(b, result, &given);
+}
+
+int refused_task(uint64_t result, const struct file *job, const struct file *plan,
+                 const struct file *task)
+{
+    struct given given = { job, plan, task };
     struct buffer text = { NULL, 0, 0 };
 
-    refusal_text(&text, result, job, plan);
+    add_refusal(&text, result, &given);
     failed("%.*s", (int)text.length, text.data);
     buffer_free(&text);
     return 1;
+}
+
+int refused(uint64_t result, const struct file *job, const struct file *plan)
+{
+    return refused_task(result, job, plan, NULL);
 }

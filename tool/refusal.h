@@ -9,6 +9,10 @@
 uint64_t ask_job(const struct file *job);
 uint64_t ask_files(const struct file *job, const struct file *plan);
 
+/* Whether a description or booking does beside a passed plan. */
+uint64_t ask_new_task(const struct file *job, const struct file *plan,
+                      const struct file *task);
+
 /* "refused 4 (value): byte 12 of .." without a line end. plan is null where
  * only a job was given. */
 void refusal_text(struct buffer *b, uint64_t result,
@@ -16,5 +20,9 @@ void refusal_text(struct buffer *b, uint64_t result,
 
 /* The same on standard error; gives the exit status 1. */
 int refused(uint64_t result, const struct file *job, const struct file *plan);
+
+/* The same where one more task was given too. */
+int refused_task(uint64_t result, const struct file *job, const struct file *plan,
+                 const struct file *task);
 
 #endif

@@ -79,6 +79,8 @@ write_bytes() { # write_bytes FILE BYTE..: bytes in hexadecimal
 
 lines() { printf '%s\n' "$@"; }
 
+. "$home/tool/test_asking.sh"
+
 # --- good files -------------------------------------------------------------------
 
 sample_tests() {
@@ -501,7 +503,7 @@ turn=0
 damaged_pair() { # damaged_pair JOB PLAN COUNT
     local words
     for ((i = 0; i < $3; i++)); do
-        case $((turn++ % 8)) in
+        case $((turn++ % 10)) in
         0) words=(judge "$1" "$2") ;;
         1) words=(show "$1" "$2") ;;
         2) words=(plan "$1" -o d.out) ;;
@@ -510,6 +512,8 @@ damaged_pair() { # damaged_pair JOB PLAN COUNT
         5) words=(unpack "$1" "$2") ;;
         6) words=(list "$1") ;;
         7) words=(unpack "$1") ;;
+        8) words=(ask "$1" "$2" d.task) ;;
+        9) words=(commit "$1" "$2" d.task -o d.out d.plan2) ;;
         esac
         [[ ! -e d.out ]] || rm d.out
         run "${words[@]}"
@@ -527,8 +531,13 @@ ended_well() {
 damage_tests() {
     later 2 12
     good plan r -o r.plan
+    task_text 'task deadline 30 run 2 2 2' 'link from 1 delay 1'
+    good pack n.txt --job j -o d.task
     damaged_job j p 3
+    sed -i 's/^task/task ready 5/' n.txt
+    good pack n.txt --job r -o d.task
     damaged_job r r.plan 5
+    good pack "$home/examples/one-more-fit.txt" --job o.job -o d.task
     damaged_plan o.job o.plan
 }
 
@@ -629,14 +638,14 @@ usage_tests() {
     wrong "there is no option '-x'" list -x j
     wrong 'standard input can be only one' judge - -
     wrong 'standard input can be only one' pack - --job - -o x
-    wrong '--job goes with a plan' pack "$home/examples/sample.txt" --job j -o x
+    wrong '--job goes with a plan or a task' pack "$home/examples/sample.txt" --job j -o x
     for loss in '' 0 @ 0@ @3 0@3x 0@-1 ' 0@3' 0@3@4 4294967296@0 0@4294967296; do
         wrong 'expected NODE@TICK' replay j p --lose "$loss"
     done
     good --help
     good --version
-    check 'version' is out 'seqopchi 1.1, for job files of versions 1 to 2 and plan files of version 1'
-    for command in plan judge replay list show pack unpack chart; do
+    check 'version' is out 'seqopchi 1.2, for job files of versions 1 to 2 and plan files of version 1'
+    for command in plan judge replay list show pack unpack chart ask commit; do
         check "help lists $command" has <("$tool" --help) "  $command "
         good "$command" --help
         check "usage of $command" has out "Usage: seqopchi $command "
@@ -726,6 +735,8 @@ demo_tests() { # what README shows of the demo is what it prints
         echo
         "$tool" replay demo.job demo.plan --lose 1@16
         echo
+        "$tool" ask demo.job demo.plan "$home/examples/one-more-fit.txt"
+        echo
         echo 'The charts are demo/plan.svg and demo/loss.svg.'
     } >demo.out
     check 'the demo as README prints it' cmp -s demo.out <(sed -n '/^```text$/,/^```$/{/^```/d;p}' "$readme")
@@ -740,11 +751,13 @@ week_step() {
     check "as printed: $command" cmp -s out <(printf %s "$want")
 }
 
-for group in sample round_trip example job_fault plan_fault rule ready ready_chart ready_file ready_text usage input output week demo; do
+for group in sample round_trip example job_fault plan_fault rule ready ready_chart ready_file ready_text \
+    ask commit stale full task_fault task_file task_text usage ask_usage input output commit_output week demo; do
     "${group}_tests"
 done
 ASAN_OPTIONS+=:detect_leaks=0 # half the time; leaks were looked for up to here
 text_damage_tests
 damage_tests
+task_damage_tests
 echo "tool: $passed passed, $failed failed"
 [[ $failed -eq 0 ]]

@@ -10,6 +10,13 @@ struct word {
     size_t length;
 };
 
+int check_text_length(const struct file *f)
+{
+    if (f->length <= TEXT_LIMIT)
+        return 0;
+    return failed("'%s' is longer than %d bytes", f->name, TEXT_LIMIT);
+}
+
 struct text text_of(const struct file *f)
 {
     struct text t;

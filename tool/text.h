@@ -11,6 +11,10 @@ struct text {
     bool wrong; /* a message was printed; nothing more is taken */
 };
 
+enum { TEXT_LIMIT = 1 << 20 }; /* some twenty times the longest job's text */
+
+/* Whether a file is short enough for a text: 0, or 2 after a message. */
+int check_text_length(const struct file *f);
 struct text text_of(const struct file *f);
 
 /* Goes to the next line that holds a word; false at the end of the text. */

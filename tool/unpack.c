@@ -1,19 +1,22 @@
-/* unpack: the text form of a job, or of a plan behind its job (TEXT.md). */
+/* unpack: the text form of a job, of a plan behind its job, or of one more task behind
+ * both (TEXT.md). */
 #include "commands.h"
 
 #include "layout.h"
-#include "seqopchi.h"
+#include "refusal.h"
 
-static void add_task_text(struct buffer *b, const struct file *job, uint32_t task)
+/* The entry of a task, which begins at that byte of f. */
+static void add_entry(struct buffer *b, const struct file *job, const struct file *f,
+                      size_t at)
 {
     uint32_t nodes = job_nodes(job);
 
-    buffer_print(b, "task %u", (unsigned)task);
     if (has_ready(job_version(job)))
-        buffer_print(b, " ready %u", (unsigned)job_ready(job, task));
-    buffer_print(b, " deadline %u run", (unsigned)job_deadline(job, task));
+        buffer_print(b, " ready %u", (unsigned)number_at(f, at));
+    buffer_print(b, " deadline %u run",
+                 (unsigned)number_at(f, at + new_deadline_at(job)));
     for (uint32_t node = 0; node < nodes; node++) {
-        uint32_t run = job_run_time(job, task, node);
+        uint32_t run = number_at(f, at + new_run_times_at(job) + 4 * (size_t)node);
 
         if (run > 0)
             buffer_print(b, " %u", (unsigned)run);
@@ -31,8 +34,10 @@ static void add_job_text(struct buffer *b, const struct file *job)
     for (uint32_t node = 0; node < nodes; node++)
         buffer_print(b, "node %u detect %u\n", (unsigned)node,
                      (unsigned)job_detect(job, node));
-    for (uint32_t task = 0; task < tasks; task++)
-        add_task_text(b, job, task);
+    for (uint32_t task = 0; task < tasks; task++) {
+        buffer_print(b, "task %u", (unsigned)task);
+        add_entry(b, job, job, task_at(job, task));
+    }
     for (uint32_t k = 0; k < links; k++) {
         struct link link = job_link(job, k);
 
@@ -41,27 +46,73 @@ static void add_job_text(struct buffer *b, const struct file *job)
     }
 }
 
+/* The four numbers of a place, which begin at that byte of f. */
+static void add_copies(struct buffer *b, const struct file *f, size_t at)
+{
+    buffer_print(b, " primary %u at %u backup %u at %u\n", (unsigned)number_at(f, at),
+                 (unsigned)number_at(f, at + 4), (unsigned)number_at(f, at + 8),
+                 (unsigned)number_at(f, at + 12));
+}
+
 static void add_plan_text(struct buffer *b, const struct input *in)
 {
     uint32_t tasks = job_tasks(&in->job);
 
     buffer_print(b, "plan %u\n", (unsigned)number_at(&in->plan, 0));
     for (uint32_t task = 0; task < tasks; task++) {
-        struct copy p = plan_copy(&in->job, &in->plan, task, 0);
-        struct copy q = plan_copy(&in->job, &in->plan, task, 1);
-
-        buffer_print(b, "task %u primary %u at %u backup %u at %u\n",
-                     (unsigned)task, (unsigned)p.node, (unsigned)p.start,
-                     (unsigned)q.node, (unsigned)q.start);
+        buffer_print(b, "task %u", (unsigned)task);
+        add_copies(b, &in->plan, 8 + 16 * (size_t)task);
     }
+}
+
+static void add_new_task_text(struct buffer *b, const struct file *job,
+                              const struct file *task)
+{
+    uint32_t links = new_links(job, task);
+
+    buffer_print(b, "task");
+    add_entry(b, job, task, 0);
+    for (uint32_t k = 0; k < links; k++) {
+        size_t at = new_link_at(job, k);
+
+        buffer_print(b, "link from %u delay %u\n", (unsigned)number_at(task, at),
+                     (unsigned)number_at(task, at + 4));
+    }
+    if (!has_place(job, task))
+        return;
+    buffer_print(b, "place");
+    add_copies(b, task, description_end(job, task));
+}
+
+static int unpack_new_task(const struct options *o)
+{
+    struct request r;
+    struct buffer text = { NULL, 0, 0 };
+    int status = read_request(&r, o);
+    uint64_t result;
+
+    if (status)
+        return status;
+    result = ask_new_task(&r.in.job, &r.in.plan, &r.task.file);
+    if (result) {
+        status = refused_task(result, &r.in.job, &r.in.plan, &r.task.file);
+    } else {
+        add_new_task_text(&text, &r.in.job, &r.task.file);
+        status = finish_output(o, &text);
+    }
+    free_request(&r);
+    return status;
 }
 
 int run_unpack(const struct options *o)
 {
     struct input in;
     struct buffer text = { NULL, 0, 0 };
-    int status = read_readable(&in, o);
+    int status;
 
+    if (o->paths > 2)
+        return unpack_new_task(o);
+    status = read_readable(&in, o);
     if (status)
         return status;
     if (in.planned)

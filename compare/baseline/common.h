@@ -1,5 +1,5 @@
-/* What both baselines share: types, reading, the rules, the judge, and writing. Each file that
-   includes this uses all of it. */
+/* What both baselines share: types, reading, the rules, the judge, writing, and the parts of ask
+   and commit that have no other way. Each file that includes this uses all of it. */
 
 #ifndef BASELINE_COMMON_H
 #define BASELINE_COMMON_H
@@ -9,6 +9,10 @@
 #include <string.h>
 
 enum { MAX_NODES = 16, MAX_TASKS = 64, MAX_LINKS = 512 };
+
+/* A task that is asked for is read behind the job's own. */
+enum { SLOTS = MAX_TASKS + 1 };
+
 enum { MAX_DETECT = 1000, MAX_TIME = 1000000 };
 
 /* The newest version of a job. A plan has version 1 only. */
@@ -17,24 +21,24 @@ enum { NEWEST = 2 };
 enum refusal {
     SHORT = 1, VERSION, COUNT, VALUE, LINK_ORDER, TAIL, UNABLE, SAME_NODE, EARLY, LATE,
     PRIMARY_UNFED, BACKUP_UNFED, COMMON_LOSS, OVERLAP, NO_PRIMARY, NO_BACKUP, SHORT_BUFFER,
-    NO_SUCH_NODE, TOO_SOON
+    NO_SUCH_NODE, TOO_SOON, FULL, STALE
 };
 
 struct link { uint32_t from, to, delay; };
 
 struct job {
-    uint32_t nodes, tasks, links;
+    uint32_t version, nodes, tasks, links;
     uint32_t detect[MAX_NODES];
-    uint32_t ready[MAX_TASKS];
-    uint32_t deadline[MAX_TASKS];
-    uint32_t run[MAX_TASKS][MAX_NODES];
+    uint32_t ready[SLOTS];
+    uint32_t deadline[SLOTS];
+    uint32_t run[SLOTS][MAX_NODES];
     struct link link[MAX_LINKS];
 };
 
 /* A copy holds its node from start up to, but not including, finish. */
 struct copy { uint32_t node, start, finish; };
 
-struct layout { struct copy primary[MAX_TASKS], backup[MAX_TASKS]; };
+struct layout { struct copy primary[SLOTS], backup[SLOTS]; };
 
 static uint64_t refuse(enum refusal number, uint64_t first, uint64_t second)
 {
@@ -82,18 +86,24 @@ static uint64_t read_nodes(struct file *file, struct job *job)
 }
 
 /* Ready times are there from version 2 on. */
-static uint64_t read_tasks(struct file *file, uint32_t version, struct job *job)
+static inline uint64_t read_task(struct file *file, struct job *job, uint32_t task)
+{
+    uint64_t refused = 0;
+    job->ready[task] = 0;
+    if (job->version >= 2)
+        refused = read_within(file, 0, MAX_TIME, VALUE, &job->ready[task]);
+    if (!refused)
+        refused = read_within(file, 1, MAX_TIME, VALUE, &job->deadline[task]);
+    for (uint32_t node = 0; !refused && node < job->nodes; node++)
+        refused = read_within(file, 0, MAX_TIME, VALUE, &job->run[task][node]);
+    return refused;
+}
+
+static uint64_t read_tasks(struct file *file, struct job *job)
 {
     uint64_t refused = read_within(file, 1, MAX_TASKS, COUNT, &job->tasks);
-    for (uint32_t task = 0; !refused && task < job->tasks; task++) {
-        job->ready[task] = 0;
-        if (version >= 2)
-            refused = read_within(file, 0, MAX_TIME, VALUE, &job->ready[task]);
-        if (!refused)
-            refused = read_within(file, 1, MAX_TIME, VALUE, &job->deadline[task]);
-        for (uint32_t node = 0; !refused && node < job->nodes; node++)
-            refused = read_within(file, 0, MAX_TIME, VALUE, &job->run[task][node]);
-    }
+    for (uint32_t task = 0; !refused && task < job->tasks; task++)
+        refused = read_task(file, job, task);
     return refused;
 }
 
@@ -130,12 +140,11 @@ static uint64_t read_end(const struct file *file)
 
 static uint64_t read_job(struct file file, struct job *job)
 {
-    uint32_t version;
-    uint64_t refused = read_within(&file, 1, NEWEST, VERSION, &version);
+    uint64_t refused = read_within(&file, 1, NEWEST, VERSION, &job->version);
     if (!refused)
         refused = read_nodes(&file, job);
     if (!refused)
-        refused = read_tasks(&file, version, job);
+        refused = read_tasks(&file, job);
     if (!refused)
         refused = read_links(&file, job);
     if (!refused)
@@ -143,8 +152,8 @@ static uint64_t read_job(struct file file, struct job *job)
     return refused;
 }
 
-static uint64_t read_copy(struct file *file, const struct job *job, uint32_t task,
-                          struct copy *copy)
+static inline uint64_t read_copy(struct file *file, const struct job *job, uint32_t task,
+                                 struct copy *copy)
 {
     uint64_t refused = read_within(file, 0, job->nodes - 1, VALUE, &copy->node);
     if (refused)
@@ -171,6 +180,30 @@ static uint64_t read_plan(struct file file, const struct job *job, struct layout
     }
     if (!refused)
         refused = read_end(&file);
+    return refused;
+}
+
+/* The links into the task that is asked for. Those that read well are no more than the job's tasks,
+   since they rise by from. */
+struct inputs {
+    uint32_t links;
+    struct link link[MAX_TASKS];
+};
+
+static uint64_t read_inputs(struct file *file, const struct job *job, struct inputs *inputs)
+{
+    uint64_t refused = read_within(file, 0, MAX_LINKS, COUNT, &inputs->links);
+    for (uint32_t i = 0; !refused && i < inputs->links; i++) {
+        struct link link = { 0, job->tasks, 0 };
+        size_t offset = file->offset;
+        refused = read_within(file, 0, job->tasks - 1, VALUE, &link.from);
+        if (!refused)
+            refused = read_within(file, 0, MAX_TIME, VALUE, &link.delay);
+        if (!refused && i > 0 && link.from <= inputs->link[i - 1].from)
+            refused = refuse(LINK_ORDER, offset, 0);
+        if (!refused)
+            inputs->link[i] = link;
+    }
     return refused;
 }
 
@@ -261,9 +294,8 @@ static uint64_t judge_primary_inputs(const struct job *job, const struct layout 
                                      uint32_t *faults);
 
 /* The ready times after rule A, then rules B to G in turn. */
-static uint64_t judge_plan(const struct job *job, const struct layout *plan)
+static uint64_t judge_plan(const struct job *job, const struct layout *plan, uint32_t *faults)
 {
-    uint32_t faults[MAX_TASKS];
     uint64_t refused = judge_tasks(job, plan);
     if (!refused)
         refused = judge_primary_inputs(job, plan, faults);
@@ -274,16 +306,23 @@ static uint64_t judge_plan(const struct job *job, const struct layout *plan)
     return refused;
 }
 
+static uint64_t read_passed(struct file job_file, struct file plan_file, struct job *job,
+                            struct layout *plan, uint32_t *faults)
+{
+    uint64_t refused = read_job(job_file, job);
+    if (!refused)
+        refused = read_plan(plan_file, job, plan);
+    if (!refused)
+        refused = judge_plan(job, plan, faults);
+    return refused;
+}
+
 static uint64_t judge(struct file job_file, struct file plan_file)
 {
     struct job job;
     struct layout plan;
-    uint64_t refused = read_job(job_file, &job);
-    if (!refused)
-        refused = read_plan(plan_file, &job, &plan);
-    if (!refused)
-        refused = judge_plan(&job, &plan);
-    return refused;
+    uint32_t faults[MAX_TASKS];
+    return read_passed(job_file, plan_file, &job, &plan, faults);
 }
 
 /* Writing. */
@@ -306,6 +345,38 @@ static void put_plan(const struct layout *plan, uint32_t tasks, uint8_t *out)
         put_number(row + 4, plan->primary[task].start);
         put_number(row + 8, plan->backup[task].node);
         put_number(row + 12, plan->backup[task].start);
+    }
+}
+
+static size_t job_bytes(const struct job *job)
+{
+    size_t task = (job->version >= 2 ? 8 : 4) + 4 * (size_t)job->nodes;
+    return 16 + 4 * (size_t)job->nodes + task * job->tasks + 12 * (size_t)job->links;
+}
+
+static uint8_t *put_next(uint8_t *at, uint32_t number)
+{
+    put_number(at, number);
+    return at + 4;
+}
+
+static void put_job(const struct job *job, uint8_t *out)
+{
+    out = put_next(put_next(out, job->version), job->nodes);
+    for (uint32_t node = 0; node < job->nodes; node++)
+        out = put_next(out, job->detect[node]);
+    out = put_next(out, job->tasks);
+    for (uint32_t task = 0; task < job->tasks; task++) {
+        if (job->version >= 2)
+            out = put_next(out, job->ready[task]);
+        out = put_next(out, job->deadline[task]);
+        for (uint32_t node = 0; node < job->nodes; node++)
+            out = put_next(out, job->run[task][node]);
+    }
+    out = put_next(out, job->links);
+    for (uint32_t i = 0; i < job->links; i++) {
+        const struct link *link = &job->link[i];
+        out = put_next(put_next(put_next(out, link->from), link->to), link->delay);
     }
 }
 
@@ -373,7 +444,106 @@ static const struct copy *put_outcome(const struct run *run, uint32_t task, enum
     return finished;
 }
 
-/* The C interface of one side, over its own `replay`; its planner has a function of its own. */
+/* Ask and commit (request (iii)) as far as both are the same: reading, the longer job, and what is
+   handed back. */
+
+static uint64_t refuse_full(const struct job *job, const struct inputs *inputs)
+{
+    if (job->tasks == MAX_TASKS || job->links + inputs->links > MAX_LINKS)
+        return refuse(FULL, job->tasks, 0);
+    return 0;
+}
+
+/* Job, plan and judge, the description, then 20. */
+static uint64_t start_ask(struct file job_file, struct file plan_file, struct file task_file,
+                          struct job *job, struct layout *plan, uint32_t *faults,
+                          struct inputs *inputs)
+{
+    uint64_t refused = read_passed(job_file, plan_file, job, plan, faults);
+    if (!refused)
+        refused = read_task(&task_file, job, job->tasks);
+    if (!refused)
+        refused = read_inputs(&task_file, job, inputs);
+    if (!refused)
+        refused = read_end(&task_file);
+    if (!refused)
+        refused = refuse_full(job, inputs);
+    return refused;
+}
+
+/* A job and a plan, and the fault sets of a passed one. */
+struct held {
+    struct job job;
+    struct layout plan;
+    uint32_t faults[SLOTS];
+};
+
+/* Job, plan and judge, the description and the four numbers, then 20. */
+static uint64_t start_commit(struct file job_file, struct file plan_file, struct file booking,
+                             struct held *held, struct inputs *inputs)
+{
+    struct job *job = &held->job;
+    struct layout *plan = &held->plan;
+    uint64_t refused = read_passed(job_file, plan_file, job, plan, held->faults);
+    if (!refused)
+        refused = read_task(&booking, job, job->tasks);
+    if (!refused)
+        refused = read_inputs(&booking, job, inputs);
+    if (!refused)
+        refused = read_copy(&booking, job, job->tasks, &plan->primary[job->tasks]);
+    if (!refused)
+        refused = read_copy(&booking, job, job->tasks, &plan->backup[job->tasks]);
+    if (!refused)
+        refused = read_end(&booking);
+    if (!refused)
+        refused = refuse_full(job, inputs);
+    return refused;
+}
+
+/* Makes the job longer by the task behind it. From behind, a new link goes after all old ones with
+   the same from; once the new ones are in, what is left of the old stands where it should. */
+static void add_task(struct job *job, const struct inputs *inputs)
+{
+    uint32_t old = job->links, added = inputs->links;
+    job->tasks++;
+    job->links += added;
+    while (added > 0) {
+        struct link *link = &job->link[old + added - 1];
+        if (old > 0 && job->link[old - 1].from > inputs->link[added - 1].from)
+            *link = job->link[--old];
+        else
+            *link = inputs->link[--added];
+    }
+}
+
+/* 17 for the job, then for the plan; then both are written. */
+static uint64_t put_longer(const struct held *held, uint8_t *out_job, size_t out_job_length,
+                           uint8_t *out_plan, size_t out_plan_length)
+{
+    size_t job = job_bytes(&held->job), plan = 8 + 16 * (size_t)held->job.tasks;
+    if (out_job_length < job)
+        return refuse(SHORT_BUFFER, job, 0);
+    if (out_plan_length < plan)
+        return refuse(SHORT_BUFFER, plan, 0);
+    put_job(&held->job, out_job);
+    put_plan(&held->plan, held->job.tasks, out_plan);
+    return 0;
+}
+
+static void put_places(const struct layout *plan, uint32_t task, uint32_t *places)
+{
+    places[0] = plan->primary[task].node;
+    places[1] = plan->primary[task].start;
+    places[2] = plan->backup[task].node;
+    places[3] = plan->backup[task].start;
+}
+
+/* The C interface of one side, over its own `replay`, `ask` and `commit`; its planner has a
+   function of its own. */
+#define EXPORT(side)                                                                              \
+    EXPORT_JUDGE_AND_REPLAY(side)                                                                 \
+    EXPORT_ASK_AND_COMMIT(side)
+
 #define EXPORT_JUDGE_AND_REPLAY(side)                                                             \
     uint64_t side##_judge(const uint8_t *job, size_t job_length, const uint8_t *plan,             \
                           size_t plan_length)                                                     \
@@ -394,6 +564,27 @@ static const struct copy *put_outcome(const struct run *run, uint32_t task, enum
         struct loss loss = { 1, node, moment };                                                   \
         return replay(open_bytes(job, job_length), open_bytes(plan, plan_length), loss, out,      \
                       out_length);                                                                \
+    }
+
+#define EXPORT_ASK_AND_COMMIT(side)                                                               \
+    uint64_t side##_ask(const uint8_t *job, size_t job_length, const uint8_t *plan,               \
+                        size_t plan_length, const uint8_t *task, size_t task_length,              \
+                        uint32_t places[4])                                                       \
+    {                                                                                             \
+        return ask(open_bytes(job, job_length), open_bytes(plan, plan_length),                    \
+                   open_bytes(task, task_length), places);                                        \
+    }                                                                                             \
+    uint64_t side##_commit(const uint8_t *job, size_t job_length, const uint8_t *plan,            \
+                           size_t plan_length, const uint8_t *booking, size_t booking_length,     \
+                           uint8_t *out_job, size_t out_job_length, uint8_t *out_plan,            \
+                           size_t out_plan_length)                                                \
+    {                                                                                             \
+        struct held held;                                                                         \
+        uint64_t refused = commit(open_bytes(job, job_length), open_bytes(plan, plan_length),     \
+                                  open_bytes(booking, booking_length), &held);                    \
+        if (!refused)                                                                             \
+            refused = put_longer(&held, out_job, out_job_length, out_plan, out_plan_length);      \
+        return refused;                                                                           \
     }
 
 #endif

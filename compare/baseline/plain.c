@@ -30,14 +30,8 @@ static uint64_t judge_primary_inputs(const struct job *job, const struct layout 
 
 /* The planner. */
 
-struct draft {
-    struct job job;
-    struct layout plan;
-    uint32_t faults[MAX_TASKS];
-};
-
 /* The copy of an earlier task that the new one may not overlap (rule G), NULL if there is none. */
-static const struct copy *clash(const struct draft *draft, uint32_t earlier,
+static const struct copy *clash(const struct held *draft, uint32_t earlier,
                                 const struct copy *copy, uint32_t faults)
 {
     const struct copy *primary = &draft->plan.primary[earlier];
@@ -51,7 +45,7 @@ static const struct copy *clash(const struct draft *draft, uint32_t earlier,
 
 /* The earliest place on its node, from where the copy stands. No start before the end of a clash
    will do, so it leaps there. It may then meet a copy looked at before, hence the repetition. */
-static void avoid_clashes(const struct draft *draft, uint32_t task, uint32_t faults,
+static void avoid_clashes(const struct held *draft, uint32_t task, uint32_t faults,
                           struct copy *copy)
 {
     uint32_t run = copy->finish - copy->start;
@@ -70,7 +64,7 @@ static void avoid_clashes(const struct draft *draft, uint32_t task, uint32_t fau
 }
 
 /* The place with the earliest finish, then the lowest node, among the nodes not barred. */
-static int find_place(const struct draft *draft, uint32_t task, const uint32_t *ready,
+static int find_place(const struct held *draft, uint32_t task, const uint32_t *ready,
                       uint32_t barred, uint32_t faults, struct copy *best)
 {
     best->finish = UINT32_MAX;
@@ -87,14 +81,14 @@ static int find_place(const struct draft *draft, uint32_t task, const uint32_t *
 }
 
 /* Puts off each node's ready moment until the sender's result is there. */
-static void wait_for(const struct draft *draft, const struct copy *sender, uint32_t delay,
+static void wait_for(const struct held *draft, const struct copy *sender, uint32_t delay,
                      uint32_t *ready)
 {
     for (uint32_t node = 0; node < draft->job.nodes; node++)
         ready[node] = later(ready[node], arrival(sender, delay, node));
 }
 
-static int place_primary(struct draft *draft, uint32_t task)
+static int place_primary(struct held *draft, uint32_t task)
 {
     uint32_t ready[MAX_NODES] = { 0 };
     /* The ready time is waited for like a result; with no delay, its node is no matter. */
@@ -109,7 +103,7 @@ static int place_primary(struct draft *draft, uint32_t task)
 }
 
 /* The fault set of a task whose primary is placed. */
-static uint32_t fault_set(const struct draft *draft, uint32_t task)
+static uint32_t fault_set(const struct held *draft, uint32_t task)
 {
     const struct copy *primary = &draft->plan.primary[task];
     uint32_t faults = UINT32_C(1) << primary->node;
@@ -122,7 +116,7 @@ static uint32_t fault_set(const struct draft *draft, uint32_t task)
 }
 
 /* The fault set holds the primary's node, so rule F bars what rule A bars. */
-static int place_backup(struct draft *draft, uint32_t task)
+static int place_backup(struct held *draft, uint32_t task)
 {
     const struct copy *primary = &draft->plan.primary[task];
     uint32_t ready[MAX_NODES];
@@ -143,7 +137,7 @@ static int place_backup(struct draft *draft, uint32_t task)
 
 uint64_t plain_plan(const uint8_t *job, size_t job_length, uint8_t *out, size_t out_length)
 {
-    struct draft draft;
+    struct held draft;
     uint64_t refused = start_plan(open_bytes(job, job_length), out_length, &draft.job);
     if (refused)
         return refused;
@@ -200,4 +194,39 @@ static uint64_t replay(struct file job, struct file plan, struct loss loss, uint
     return 0;
 }
 
-EXPORT_JUDGE_AND_REPLAY(plain)
+/* Ask and commit. */
+
+/* The planner's next step: the fault sets of the tasks before were the judge's. */
+static uint64_t ask(struct file job, struct file plan, struct file task_file, uint32_t *places)
+{
+    struct held draft;
+    struct inputs inputs;
+    uint64_t refused =
+        start_ask(job, plan, task_file, &draft.job, &draft.plan, draft.faults, &inputs);
+    if (refused)
+        return refused;
+    uint32_t task = draft.job.tasks;
+    add_task(&draft.job, &inputs);
+    if (!place_primary(&draft, task))
+        return refuse(NO_PRIMARY, task, task);
+    if (!place_backup(&draft, task))
+        return refuse(NO_BACKUP, task, task);
+    put_places(&draft.plan, task, places);
+    return 0;
+}
+
+/* Stale just if the judge refuses the longer pair. */
+static uint64_t commit(struct file job, struct file plan, struct file booking, struct held *held)
+{
+    struct inputs inputs;
+    uint64_t refused = start_commit(job, plan, booking, held, &inputs);
+    if (refused)
+        return refused;
+    uint32_t task = held->job.tasks;
+    add_task(&held->job, &inputs);
+    if (judge_plan(&held->job, &held->plan, held->faults))
+        return refuse(STALE, task, task);
+    return 0;
+}
+
+EXPORT(plain)

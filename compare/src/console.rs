@@ -1,12 +1,19 @@
-//! Judge, planner and replay on byte buffers, as the console calls them.
+//! Judge, planner, replay, ask and commit on byte buffers, as the console calls them.
 
-use crate::files::{read_job, read_plan, write_plan};
+use crate::asking;
+use crate::bookings::{read_booking, read_description};
+use crate::files::{read_job, read_plan, row_numbers, write_job, write_plan, Job, Plan};
 use crate::planner;
 use crate::refusal::{Refusal, NO_SUCH_NODE, SHORT_BUFFER};
 use crate::replay::{self, Loss};
 use crate::rules;
 
+/// What ask writes: primary node, primary start, backup node, backup start.
+pub type Places = [u32; 4];
+
 type Replay = fn(&[u8], &[u8], Option<Loss>, &mut [u8]) -> u64;
+type Ask = fn(&[u8], &[u8], &[u8], &mut Places) -> u64;
+type Commit = fn(&[u8], &[u8], &[u8], &mut [u8], &mut [u8]) -> u64;
 
 /// One implementation of the console's functions. No loss is a case of its own.
 #[derive(Clone, Copy)]
@@ -15,10 +22,14 @@ pub struct Console {
     pub judge: fn(&[u8], &[u8]) -> u64,
     pub plan: fn(&[u8], &mut [u8]) -> u64,
     pub replay: Replay,
+    /// Job, plan and description.
+    pub ask: Ask,
+    /// Job, plan and booking; the longer job and the longer plan.
+    pub commit: Commit,
 }
 
 /// The implementation of this package.
-pub const SECOND: Console = Console { name: "second", judge, plan, replay };
+pub const SECOND: Console = Console { name: "second", judge, plan, replay, ask, commit };
 
 pub fn plan_bytes(tasks: usize) -> usize {
     8 + 16 * tasks
@@ -33,13 +44,15 @@ fn code(answer: Result<(), Refusal>) -> u64 {
 }
 
 fn judge(job: &[u8], plan: &[u8]) -> u64 {
-    code(try_judge(job, plan))
+    code(passed(job, plan).map(|_| ()))
 }
 
-fn try_judge(job: &[u8], plan: &[u8]) -> Result<(), Refusal> {
+/// Both files, if the judge passes them.
+fn passed(job: &[u8], plan: &[u8]) -> Result<(Job, Plan), Refusal> {
     let job = read_job(job)?;
     let plan = read_plan(&job, plan)?;
-    rules::judge(&job, &plan)
+    rules::judge(&job, &plan)?;
+    Ok((job, plan))
 }
 
 fn plan(job: &[u8], out: &mut [u8]) -> u64 {
@@ -68,6 +81,38 @@ fn try_replay(job: &[u8], plan: &[u8], loss: Option<Loss>, out: &mut [u8]) -> Re
     let numbers =
         outcomes.iter().flat_map(|o| [o.primary as u32, o.backup as u32, o.finish as u32]);
     put(&numbers.flat_map(u32::to_le_bytes).collect::<Vec<u8>>(), out);
+    Ok(())
+}
+
+fn ask(job: &[u8], plan: &[u8], task: &[u8], places: &mut Places) -> u64 {
+    code(try_ask(job, plan, task).map(|answer| *places = answer))
+}
+
+fn try_ask(job: &[u8], plan: &[u8], task: &[u8]) -> Result<Places, Refusal> {
+    let (job, plan) = passed(job, plan)?;
+    let row = asking::ask(&job, &plan, &read_description(&job, task)?)?;
+    Ok(row_numbers(&row).map(|number| number as u32))
+}
+
+fn commit(job: &[u8], plan: &[u8], booking: &[u8], out_job: &mut [u8], out_plan: &mut [u8]) -> u64 {
+    code(try_commit(job, plan, booking, out_job, out_plan))
+}
+
+fn try_commit(
+    job: &[u8],
+    plan: &[u8],
+    booking: &[u8],
+    out_job: &mut [u8],
+    out_plan: &mut [u8],
+) -> Result<(), Refusal> {
+    let (job, plan) = passed(job, plan)?;
+    let (new, row) = read_booking(&job, booking)?;
+    let (job, plan) = asking::commit(&job, &plan, &new, row)?;
+    let (job, plan) = (write_job(&job), write_plan(&plan));
+    room_for(job.len(), out_job)?;
+    room_for(plan.len(), out_plan)?;
+    put(&job, out_job);
+    put(&plan, out_plan);
     Ok(())
 }
 

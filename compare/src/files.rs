@@ -79,13 +79,17 @@ impl Job {
 }
 
 /// A file and the offset of the number that is due next.
-struct Cursor<'a> {
+pub struct Cursor<'a> {
     bytes: &'a [u8],
-    offset: usize,
+    pub offset: usize,
 }
 
 impl Cursor<'_> {
-    fn refuse<T>(&self, number: u8, offset: usize) -> Result<T, Refusal> {
+    pub fn new(bytes: &[u8]) -> Cursor<'_> {
+        Cursor { bytes, offset: 0 }
+    }
+
+    pub fn refuse<T>(&self, number: u8, offset: usize) -> Result<T, Refusal> {
         Err(Refusal::at(number, offset as u64))
     }
 
@@ -113,11 +117,11 @@ impl Cursor<'_> {
         self.within(1, newest, VERSION)
     }
 
-    fn count(&mut self, limits: (u64, u64)) -> Result<usize, Refusal> {
+    pub fn count(&mut self, limits: (u64, u64)) -> Result<usize, Refusal> {
         Ok(self.within(limits.0, limits.1, COUNT)? as usize)
     }
 
-    fn value(&mut self, low: u64, high: u64) -> Result<u64, Refusal> {
+    pub fn value(&mut self, low: u64, high: u64) -> Result<u64, Refusal> {
         self.within(low, high, VALUE)
     }
 
@@ -136,7 +140,7 @@ impl Cursor<'_> {
         Ok(values)
     }
 
-    fn end(&self) -> Result<(), Refusal> {
+    pub fn end(&self) -> Result<(), Refusal> {
         if self.offset < self.bytes.len() {
             return self.refuse(TAIL, self.offset);
         }
@@ -145,7 +149,7 @@ impl Cursor<'_> {
 }
 
 pub fn read_job(bytes: &[u8]) -> Result<Job, Refusal> {
-    let mut file = Cursor { bytes, offset: 0 };
+    let mut file = Cursor::new(bytes);
     let version = file.version(NEWEST)?;
     let nodes = file.count(NODES)?;
     let detect = (0..nodes).map(|_| file.value(0, MAX_DETECT)).collect::<Result<_, _>>()?;
@@ -157,7 +161,7 @@ pub fn read_job(bytes: &[u8]) -> Result<Job, Refusal> {
     Ok(Job { version, detect, tasks, links })
 }
 
-fn read_task(file: &mut Cursor, version: u64, nodes: usize) -> Result<Task, Refusal> {
+pub fn read_task(file: &mut Cursor, version: u64, nodes: usize) -> Result<Task, Refusal> {
     let [ready, deadline] = file.fields(version, &TASK)?;
     let run = (0..nodes).map(|_| file.value(0, MAX_TIME)).collect::<Result<_, _>>()?;
     Ok(Task { ready, deadline, run })
@@ -187,18 +191,19 @@ fn read_link(file: &mut Cursor, last_task: u64) -> Result<Link, Refusal> {
 }
 
 pub fn read_plan(job: &Job, bytes: &[u8]) -> Result<Plan, Refusal> {
-    let mut file = Cursor { bytes, offset: 0 };
+    let mut file = Cursor::new(bytes);
     file.version(1)?;
     let tasks = job.tasks.len() as u64;
     file.count((tasks, tasks))?;
-    let mut rows = Vec::new();
-    for task in &job.tasks {
-        let primary = read_place(&mut file, task)?;
-        let backup = read_place(&mut file, task)?;
-        rows.push(Row { primary, backup });
-    }
+    let rows = job.tasks.iter().map(|task| read_row(&mut file, task)).collect::<Result<_, _>>()?;
     file.end()?;
     Ok(Plan { rows })
+}
+
+pub fn read_row(file: &mut Cursor, task: &Task) -> Result<Row, Refusal> {
+    let primary = read_place(file, task)?;
+    let backup = read_place(file, task)?;
+    Ok(Row { primary, backup })
 }
 
 /// That the node can run the task is asked before the start is read.
@@ -222,8 +227,18 @@ fn present<const N: usize>(
     listed.filter(move |(field, _)| field.is_in(version)).map(|(_, value)| value)
 }
 
-fn bytes_of(numbers: &[u64]) -> Vec<u8> {
+pub fn bytes_of(numbers: &[u64]) -> Vec<u8> {
     numbers.iter().flat_map(|&number| (number as u32).to_le_bytes()).collect()
+}
+
+/// A task's entry in a job of that version.
+pub fn task_numbers(version: u64, task: &Task) -> Vec<u64> {
+    present(version, &TASK, [task.ready, task.deadline]).chain(task.run.iter().copied()).collect()
+}
+
+/// Primary node, primary start, backup node, backup start.
+pub fn row_numbers(row: &Row) -> [u64; 4] {
+    [row.primary.node as u64, row.primary.start, row.backup.node as u64, row.backup.start]
 }
 
 /// The bytes of a job, good or not: whoever makes test files wants faulty ones too.
@@ -231,10 +246,7 @@ pub fn write_job(job: &Job) -> Vec<u8> {
     let mut numbers = vec![job.version, job.detect.len() as u64];
     numbers.extend(&job.detect);
     numbers.push(job.tasks.len() as u64);
-    for task in &job.tasks {
-        numbers.extend(present(job.version, &TASK, [task.ready, task.deadline]));
-        numbers.extend(&task.run);
-    }
+    numbers.extend(job.tasks.iter().flat_map(|task| task_numbers(job.version, task)));
     numbers.push(job.links.len() as u64);
     for link in &job.links {
         numbers.extend([link.from as u64, link.to as u64, link.delay]);
@@ -245,11 +257,7 @@ pub fn write_job(job: &Job) -> Vec<u8> {
 /// The bytes of a plan, good or not.
 pub fn write_plan(plan: &Plan) -> Vec<u8> {
     let mut numbers = vec![1, plan.rows.len() as u64];
-    for row in &plan.rows {
-        for place in [row.primary, row.backup] {
-            numbers.extend([place.node as u64, place.start]);
-        }
-    }
+    numbers.extend(plan.rows.iter().flat_map(row_numbers));
     bytes_of(&numbers)
 }
 

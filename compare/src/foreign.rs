@@ -1,13 +1,16 @@
 //! The three consoles behind a C interface: the proved library and the two baselines.
 
-use crate::console::Console;
+use crate::console::{Console, Places};
 use crate::replay::Loss;
 
-/// The four C functions of one prefix as a console. A slice crosses as a pointer and its length.
+/// The C functions of one prefix as a console. A slice crosses as a pointer and its length.
 macro_rules! c_console {
-    ($module:ident, $judge:ident, $plan:ident, $replay:ident, $replay_loss:ident) => {
+    (
+        $module:ident, $judge:ident, $plan:ident, $replay:ident, $replay_loss:ident, $ask:ident,
+        $commit:ident
+    ) => {
         mod $module {
-            use super::Loss;
+            use super::{Console, Loss, Places};
 
             extern "C" {
                 fn $judge(job: *const u8, job_len: usize, plan: *const u8, plan_len: usize) -> u64;
@@ -30,19 +33,43 @@ macro_rules! c_console {
                     out: *mut u8,
                     out_len: usize,
                 ) -> u64;
+                fn $ask(
+                    job: *const u8,
+                    job_len: usize,
+                    plan: *const u8,
+                    plan_len: usize,
+                    task: *const u8,
+                    task_len: usize,
+                    places: *mut u32,
+                ) -> u64;
+                fn $commit(
+                    job: *const u8,
+                    job_len: usize,
+                    plan: *const u8,
+                    plan_len: usize,
+                    booking: *const u8,
+                    booking_len: usize,
+                    out_job: *mut u8,
+                    out_job_len: usize,
+                    out_plan: *mut u8,
+                    out_plan_len: usize,
+                ) -> u64;
             }
+
+            pub const CONSOLE: Console =
+                Console { name: stringify!($module), judge, plan, replay, ask, commit };
 
             // Each slice is live and borrowed for the whole call, and the C side keeps none.
 
-            pub fn judge(job: &[u8], plan: &[u8]) -> u64 {
+            fn judge(job: &[u8], plan: &[u8]) -> u64 {
                 unsafe { $judge(job.as_ptr(), job.len(), plan.as_ptr(), plan.len()) }
             }
 
-            pub fn plan(job: &[u8], out: &mut [u8]) -> u64 {
+            fn plan(job: &[u8], out: &mut [u8]) -> u64 {
                 unsafe { $plan(job.as_ptr(), job.len(), out.as_mut_ptr(), out.len()) }
             }
 
-            pub fn replay(job: &[u8], plan: &[u8], loss: Option<Loss>, out: &mut [u8]) -> u64 {
+            fn replay(job: &[u8], plan: &[u8], loss: Option<Loss>, out: &mut [u8]) -> u64 {
                 let (job, job_len) = (job.as_ptr(), job.len());
                 let (plan, plan_len) = (plan.as_ptr(), plan.len());
                 let (out, out_len) = (out.as_mut_ptr(), out.len());
@@ -53,26 +80,73 @@ macro_rules! c_console {
                     },
                 }
             }
+
+            fn ask(job: &[u8], plan: &[u8], task: &[u8], places: &mut Places) -> u64 {
+                let (job, job_len) = (job.as_ptr(), job.len());
+                let (plan, plan_len) = (plan.as_ptr(), plan.len());
+                let (task, task_len) = (task.as_ptr(), task.len());
+                unsafe { $ask(job, job_len, plan, plan_len, task, task_len, places.as_mut_ptr()) }
+            }
+
+            fn commit(
+                job: &[u8],
+                plan: &[u8],
+                booking: &[u8],
+                out_job: &mut [u8],
+                out_plan: &mut [u8],
+            ) -> u64 {
+                unsafe {
+                    $commit(
+                        job.as_ptr(),
+                        job.len(),
+                        plan.as_ptr(),
+                        plan.len(),
+                        booking.as_ptr(),
+                        booking.len(),
+                        out_job.as_mut_ptr(),
+                        out_job.len(),
+                        out_plan.as_mut_ptr(),
+                        out_plan.len(),
+                    )
+                }
+            }
         }
     };
 }
 
-c_console!(library, seqopchi_judge, seqopchi_plan, seqopchi_replay, seqopchi_replay_loss);
-c_console!(plain, plain_judge, plain_plan, plain_replay, plain_replay_loss);
-c_console!(tuned, tuned_judge, tuned_plan, tuned_replay, tuned_replay_loss);
+c_console!(
+    library,
+    seqopchi_judge,
+    seqopchi_plan,
+    seqopchi_replay,
+    seqopchi_replay_loss,
+    seqopchi_ask,
+    seqopchi_commit
+);
+c_console!(
+    plain,
+    plain_judge,
+    plain_plan,
+    plain_replay,
+    plain_replay_loss,
+    plain_ask,
+    plain_commit
+);
+c_console!(
+    tuned,
+    tuned_judge,
+    tuned_plan,
+    tuned_replay,
+    tuned_replay_loss,
+    tuned_ask,
+    tuned_commit
+);
 
 /// The library under test.
-pub const LIBRARY: Console = Console {
-    name: "library",
-    judge: library::judge,
-    plan: library::plan,
-    replay: library::replay,
-};
+pub const LIBRARY: Console = library::CONSOLE;
 
 /// Plain C: the documents as they read. The benchmark measures the library by it.
-pub const PLAIN: Console =
-    Console { name: "plain", judge: plain::judge, plan: plain::plan, replay: plain::replay };
+pub const PLAIN: Console = plain::CONSOLE;
 
 /// C that is tuned for speed: how much a better method would gain.
-pub const TUNED: Console =
-    Console { name: "tuned", judge: tuned::judge, plan: tuned::plan, replay: tuned::replay };
+pub const TUNED: Console = tuned::CONSOLE;

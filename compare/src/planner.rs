@@ -5,8 +5,8 @@ use std::collections::BTreeSet;
 use crate::files::{Job, Link, Place, Plan, Row};
 use crate::refusal::{Refusal, NO_BACKUP, NO_PRIMARY};
 use crate::rules::{
-    after_detection, after_ready, arrival, backup_fed, copy, fault_set, overlap, primary_fed, Copy,
-    FaultSet, Layout,
+    after_detection, after_ready, arrival, backup_fed, copy, fault_set, layout, overlap,
+    primary_fed, Copy, FaultSet, Layout,
 };
 
 /// A plan in the making. The next task is the first that has no backup yet.
@@ -19,11 +19,8 @@ pub struct Draft<'a> {
 
 pub fn plan(job: &Job) -> Result<Plan, Refusal> {
     let mut draft = Draft::new(job);
-    for task in 0..job.tasks.len() {
-        let primary = draft.earliest_primary().ok_or(Refusal::of_task(NO_PRIMARY, task))?;
-        draft.place_primary(primary);
-        let backup = draft.earliest_backup().ok_or(Refusal::of_task(NO_BACKUP, task))?;
-        draft.place_backup(backup);
+    for _ in &job.tasks {
+        draft.place_next()?;
     }
     Ok(draft.plan())
 }
@@ -31,6 +28,24 @@ pub fn plan(job: &Job) -> Result<Plan, Refusal> {
 impl<'a> Draft<'a> {
     pub fn new(job: &'a Job) -> Draft<'a> {
         Draft { job, layout: Layout::default(), fault_sets: Vec::new() }
+    }
+
+    /// A draft that holds a plan of the job's first tasks.
+    pub fn holding(job: &'a Job, plan: &Plan) -> Draft<'a> {
+        let layout = layout(job, plan);
+        let tasks = 0..plan.rows.len();
+        let fault_sets = tasks.map(|task| fault_set(job, &layout, task)).collect();
+        Draft { job, layout, fault_sets }
+    }
+
+    /// Places both copies of the next task.
+    pub fn place_next(&mut self) -> Result<(), Refusal> {
+        let task = self.task();
+        let primary = self.earliest_primary().ok_or(Refusal::of_task(NO_PRIMARY, task))?;
+        self.place_primary(primary);
+        let backup = self.earliest_backup().ok_or(Refusal::of_task(NO_BACKUP, task))?;
+        self.place_backup(backup);
+        Ok(())
     }
 
     pub fn task(&self) -> usize {

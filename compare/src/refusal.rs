@@ -19,9 +19,11 @@ pub const NO_BACKUP: u8 = 16;
 pub const SHORT_BUFFER: u8 = 17;
 pub const NO_SUCH_NODE: u8 = 18;
 pub const TOO_SOON: u8 = 19;
+pub const FULL: u8 = 20;
+pub const STALE: u8 = 21;
 
 /// The word of each number; 0 is success.
-pub const WORDS: [&str; 20] = [
+pub const WORDS: [&str; 22] = [
     "(success)",
     "short",
     "version",
@@ -42,6 +44,8 @@ pub const WORDS: [&str; 20] = [
     "short buffer",
     "no such node",
     "too soon",
+    "full",
+    "stale",
 ];
 
 #[derive(Clone, Copy, Debug, PartialEq, Eq)]
@@ -52,7 +56,7 @@ pub struct Refusal {
 }
 
 impl Refusal {
-    /// A refusal whose only place is a byte offset, a length or a node.
+    /// A refusal whose only place is a byte offset, a length, a node or a task.
     pub fn at(number: u8, place: u64) -> Refusal {
         Refusal { number, first: place, second: 0 }
     }

@@ -2,57 +2,21 @@
 
 use std::collections::BTreeSet;
 
-use crate::console::{plan_bytes, replay_bytes};
+use crate::console::plan_bytes;
 use crate::damage::{damaged, disordered, ready_at_limit, renumbered};
 use crate::earlier::{hasty_plan, keeps_rule_e_of_01, without_ready_times};
-use crate::files::{read_job, read_plan, write_job, write_plan, Job, Plan, NEWEST, NODES, TASKS};
+use crate::files::{read_job, read_plan, write_plan, Job, Plan, NEWEST, NODES, TASKS};
+use crate::given::{some_room, Given};
 use crate::jobs::random_job;
+use crate::losses::{moments_after, try_losses, try_survival};
 use crate::plans::{changed_plan, passing_plan, wild_plan};
 use crate::random::Random;
 use crate::refusal::{Refusal, SAME_NODE, VERSION};
 use crate::replay::{replay, Loss, State};
 use crate::rules::{layout, longest_weak_path};
 use crate::survival::Survival;
-use crate::trial::{Call, Function, Mismatch, Tally, Trial};
-
-/// Up to so many runs of a passed plan, every node is lost at every tick.
-const MOST_RUNS: u64 = 8_000;
-
-/// A job's value and bytes.
-struct Given {
-    job: Job,
-    bytes: Vec<u8>,
-}
-
-impl Given {
-    fn new(job: Job) -> Given {
-        Given { bytes: write_job(&job), job }
-    }
-
-    fn judge<'a>(&'a self, plan: &'a [u8]) -> Call<'a> {
-        Call { function: Function::Judge, job: &self.bytes, plan, room: 0 }
-    }
-
-    fn plan(&self, room: usize) -> Call<'_> {
-        Call { function: Function::Plan, job: &self.bytes, plan: &[], room }
-    }
-
-    fn replay<'a>(&'a self, plan: &'a [u8], loss: Option<Loss>, room: usize) -> Call<'a> {
-        Call { function: Function::Replay(loss), job: &self.bytes, plan, room }
-    }
-
-    fn nodes(&self) -> usize {
-        self.job.detect.len()
-    }
-
-    fn plan_room(&self) -> usize {
-        plan_bytes(self.job.tasks.len())
-    }
-
-    fn replay_room(&self) -> usize {
-        replay_bytes(self.job.tasks.len())
-    }
-}
+use crate::tally::Tally;
+use crate::trial::{Call, Function, Mismatch, Trial};
 
 pub fn round(trial: &mut Trial, random: &mut Random) -> Result<(), Mismatch> {
     let given = Given::new(random_job(random));
@@ -142,16 +106,6 @@ fn try_planner(
     let plan = read_plan(&given.job, &bytes).expect("a passed plan reads well");
     trial.tally.planned_newly += u64::from(!keeps_rule_e_of_01(&given.job, &plan));
     Ok(Some(plan))
-}
-
-/// A buffer length near the one needed, or far too small.
-fn some_room(random: &mut Random, needed: usize) -> usize {
-    let near = needed - 5 + random.below(14);
-    if random.percent(20) {
-        random.below(needed)
-    } else {
-        near
-    }
 }
 
 /// The planner's plan and others that keep the rules.
@@ -305,72 +259,6 @@ const FAR_NODES: [u32; 13] =
 fn missing_node(random: &mut Random, nodes: u32) -> u32 {
     let (far, any) = (random.pick(&FAR_NODES), random.draw() as u32);
     random.pick(&[nodes, nodes, nodes + 1, far, u32::MAX, any]).max(nodes)
-}
-
-/// Moments from the end of a plan on, up to the greatest that can be asked for.
-fn moments_after(survival: &Survival) -> [u64; 4] {
-    [survival.end(), survival.end() + 1, 2_000_000, u64::from(u32::MAX)]
-}
-
-/// Losses at every start and finish, one tick before each, and after the end. Of a plan that was
-/// refused, or a long one, only some of them.
-fn try_losses(
-    trial: &mut Trial,
-    random: &mut Random,
-    given: &Given,
-    plan: &[u8],
-    survival: &Survival,
-    passed: bool,
-) -> Result<(), Mismatch> {
-    let mut losses: Vec<(usize, u64)> = survival.moments().collect();
-    let wanted = if passed { 256 } else { 24 };
-    while losses.len() > wanted {
-        losses.swap_remove(random.below(losses.len()));
-    }
-    let node = random.below(given.nodes());
-    losses.extend(moments_after(survival).map(|moment| (node, moment)));
-    losses.push((node, random.between(0, survival.end() + 1)));
-    for (node, moment) in losses {
-        let loss = Loss { node: node as u32, moment: moment as u32 };
-        trial.compare(&given.replay(plan, Some(loss), given.replay_room()))?;
-    }
-    Ok(())
-}
-
-/// Demand 3 on the console's own replay of a passed plan.
-fn try_survival(
-    trial: &mut Trial,
-    random: &mut Random,
-    given: &Given,
-    plan: &[u8],
-    survival: &Survival,
-) -> Result<(), Mismatch> {
-    let mut rows = vec![0; given.replay_room()];
-    let mut run = |loss: Option<Loss>| {
-        trial.tally.survived += 1;
-        let code = (trial.console.replay)(&given.bytes, plan, loss, &mut rows);
-        let refused = (code != 0).then(|| "refused the replay of a passed plan".to_string());
-        let fault = refused.or_else(|| survival.fault(loss, &rows));
-        let call = given.replay(plan, loss, rows.len());
-        fault.map_or(Ok(()), |text| Err(Mismatch::new(&call, text)))
-    };
-    run(None)?;
-    let (nodes, end) = (given.nodes() as u64, survival.end() + 1);
-    let lost = |node: u64, moment: u64| Some(Loss { node: node as u32, moment: moment as u32 });
-    if nodes * (end + 1) <= MOST_RUNS {
-        for node in 0..nodes {
-            (0..=end).try_for_each(|moment| run(lost(node, moment)))?;
-        }
-        trial.tally.every_tick += 1;
-        return Ok(());
-    }
-    for (node, moment) in survival.moments() {
-        run(lost(node as u64, moment))?;
-    }
-    for _ in 0..200 {
-        run(lost(random.between(0, nodes - 1), random.between(0, end)))?;
-    }
-    Ok(())
 }
 
 fn try_damage(

@@ -1,6 +1,7 @@
 //! The samples of document 01, starred or not, sample 8 as request (i) of document 02 changes it;
-//! and samples for request (ii).
+//! samples for request (ii), and those for request (iii), which have a file of their own.
 
+use crate::asked_samples;
 use crate::console::{plan_bytes, replay_bytes, Console};
 use crate::files::{write_job, write_plan, Job, Link, Place, Plan, Row, Task, MAX_TIME};
 use crate::refusal::{
@@ -60,23 +61,23 @@ pub fn plan_of<const N: usize>(rows: [Listed; N]) -> Plan {
     Plan { rows: rows.to_vec() }
 }
 
-fn bytes_of(rows: [Listed; 2]) -> Vec<u8> {
+pub fn bytes_of<const N: usize>(rows: [Listed; N]) -> Vec<u8> {
     write_plan(&plan_of(rows))
 }
 
 /// The console that the samples are put to, and what differs so far.
-struct Check<'a> {
-    console: &'a Console,
+pub struct Check<'a> {
+    pub console: &'a Console,
     faults: Vec<String>,
     count: usize,
 }
 
 /// Buffers are longer than asked for, and begin as this.
-const FILL: u8 = 0xa5;
-const SPARE: usize = 8;
+pub const FILL: u8 = 0xa5;
+pub const SPARE: usize = 8;
 
 impl Check<'_> {
-    fn expect(&mut self, sample: &str, got: u64, expected: Result<(), Refusal>) {
+    pub fn expect(&mut self, sample: &str, got: u64, expected: Result<(), Refusal>) {
         self.count += 1;
         let expected = expected.map_or_else(Refusal::code, |()| 0);
         if got != expected {
@@ -85,7 +86,7 @@ impl Check<'_> {
         }
     }
 
-    fn expect_bytes(&mut self, sample: &str, got: &[u8], expected: Option<Vec<u8>>) {
+    pub fn expect_bytes(&mut self, sample: &str, got: &[u8], expected: Option<Vec<u8>>) {
         let mut expected = expected.unwrap_or_default();
         expected.resize(got.len(), FILL);
         if got != expected {
@@ -147,6 +148,7 @@ pub fn run(console: &Console) -> (usize, Vec<String>) {
     ready_judged(&mut check);
     ready_replayed(&mut check);
     ready_unread(&mut check);
+    asked_samples::run(&mut check);
     (check.count, check.faults)
 }
 

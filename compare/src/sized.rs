@@ -1,7 +1,10 @@
-//! Jobs of a given size that are planned, for the benchmark and the stack.
+//! Jobs of a given size that are planned, for the benchmark and the stack; and a task more to ask
+//! for.
 
+use crate::bookings::write_description;
 use crate::console::plan_bytes;
-use crate::files::{write_job, Job, Link, Task, MAX_TIME, READY};
+use crate::descriptions::roomy_task;
+use crate::files::{read_job, write_job, Job, Link, Task, MAX_TIME, READY, TASKS};
 use crate::foreign::PLAIN;
 use crate::random::Random;
 use crate::replay::Loss;
@@ -24,9 +27,7 @@ pub fn planned(version: u64, nodes: usize, tasks: usize, links: usize) -> Planne
     let mut plan = vec![0; plan_bytes(tasks)];
     let planned = (0..1000).find_map(|seed| {
         let random = &mut Random::new(seed);
-        let mut job = sized_job(random, nodes, tasks, links);
-        set_version(random, &mut job, version);
-        let job = write_job(&job);
+        let job = write_job(&sized_job(random, version, nodes, tasks, links));
         ((PLAIN.plan)(&job, &mut plan) == 0).then_some(job)
     });
     let job = planned.expect("such jobs are planned more often than not");
@@ -37,24 +38,64 @@ pub fn planned(version: u64, nodes: usize, tasks: usize, links: usize) -> Planne
     PlannedJob { nodes, tasks, links, job, plan, loss }
 }
 
-fn sized_job(random: &mut Random, nodes: usize, tasks: usize, links: usize) -> Job {
+/// A planned job, and a task to ask for and to book beside its plan.
+pub struct AskedJob {
+    pub held: PlannedJob,
+    pub task: Vec<u8>,
+    pub booking: Vec<u8>,
+    /// The bytes of the longer job and of the longer plan.
+    pub rooms: (usize, usize),
+}
+
+/// The new task has as many links as a task of the job has on average. With 64 tasks there would be
+/// no room for it: there the job has a task and those links fewer, and the longer job the size.
+pub fn asked(version: u64, nodes: usize, tasks: usize, links: usize) -> AskedJob {
+    let added = links / tasks;
+    let is_full = tasks == TASKS.1 as usize;
+    let held = if is_full {
+        planned(version, nodes, tasks - 1, links - added)
+    } else {
+        planned(version, nodes, tasks, links)
+    };
+    let job = read_job(&held.job).expect("a planned job reads well");
+    let mut places = [0; 4];
+    let placed = (0..1000).find_map(|seed| {
+        let task = write_description(version, &roomy_task(&mut Random::new(seed), &job, added));
+        ((PLAIN.ask)(&held.job, &held.plan, &task, &mut places) == 0).then_some(task)
+    });
+    let task = placed.expect("such tasks have a place more often than not");
+    let booking = [&task[..], &places.map(u32::to_le_bytes).concat()].concat();
+    // The link count is in the job already, and a link there has a number more.
+    let rooms = (held.job.len() + task.len() - 4 + 4 * added, held.plan.len() + 16);
+    AskedJob { held, task, booking, rooms }
+}
+
+/// A random job of that version and size.
+pub fn sized_job(
+    random: &mut Random,
+    version: u64,
+    nodes: usize,
+    tasks: usize,
+    links: usize,
+) -> Job {
     let mut task = || {
         let run = (0..nodes).map(|_| random.between(5, 20)).collect();
         Task { ready: 0, deadline: MAX_TIME, run }
     };
     let tasks_made = (0..tasks).map(|_| task()).collect();
-    Job {
-        version: 1,
+    let mut job = Job {
+        version,
         detect: (0..nodes).map(|_| random.between(1, 5)).collect(),
         tasks: tasks_made,
         links: sized_links(random, tasks, links),
-    }
+    };
+    set_ready_times(random, &mut job);
+    job
 }
 
 /// What newer versions have is drawn last, so that the rest of a job is the same in all of them.
-fn set_version(random: &mut Random, job: &mut Job, version: u64) {
-    job.version = version;
-    if READY.is_in(version) {
+fn set_ready_times(random: &mut Random, job: &mut Job) {
+    if READY.is_in(job.version) {
         job.tasks.iter_mut().for_each(|task| task.ready = random.between(1, MOST_READY));
     }
 }

@@ -4,7 +4,7 @@ use std::ffi::c_void;
 
 use crate::console::{plan_bytes, replay_bytes, Console};
 use crate::files::NEWEST;
-use crate::sized::planned;
+use crate::sized::{asked, planned};
 
 /// A call has to use less than this.
 pub const LIMIT: usize = 128 * 1024;
@@ -13,7 +13,7 @@ extern "C" {
     fn stack_used(call: extern "C" fn(*mut c_void), argument: *mut c_void) -> usize;
 }
 
-type Used = [(&'static str, usize); 4];
+type Used = [(&'static str, usize); 6];
 
 /// Each function with the bytes of stack that it uses, in the version that takes more.
 pub fn used(console: &Console) -> Used {
@@ -30,18 +30,25 @@ fn used_in(console: &Console, version: u64) -> Used {
     let (job, plan) = (&case.job, &case.plan);
     let mut planned = vec![0; plan_bytes(case.tasks)];
     let mut replayed = vec![0; replay_bytes(case.tasks)];
+    let new = asked(version, 16, 64, 512);
+    let (held, held_plan) = (&new.held.job, &new.held.plan);
+    let (mut longer, mut booked) = (vec![0; new.rooms.0], vec![0; new.rooms.1]);
+    let mut places = [0; 4];
+    let mut commit = || (console.commit)(held, held_plan, &new.booking, &mut longer, &mut booked);
     [
         ("judge", measure(|| (console.judge)(job, plan))),
         ("plan", measure(|| (console.plan)(job, &mut planned))),
         ("replay", measure(|| (console.replay)(job, plan, None, &mut replayed))),
         ("replay_loss", measure(|| (console.replay)(job, plan, Some(case.loss), &mut replayed))),
+        ("ask", measure(|| (console.ask)(held, held_plan, &new.task, &mut places))),
+        ("commit", measure(&mut commit)),
     ]
 }
 
 /// The stack that a call uses, which has to succeed or the measure says little.
 fn measure(call: impl FnMut() -> u64) -> usize {
     let (used, answer) = on_painted_stack(call);
-    assert_eq!(answer, 0, "the job is planned and its plan passes");
+    assert_eq!(answer, 0, "the job is planned, its plan passes, and the new task has a place");
     used
 }
 

@@ -1,196 +1,27 @@
 /* Holds the header's limits and lengths to the library's, through the calls, in each
  * job version: each limit and one past it, each length and a byte less and more. */
-#include "seqopchi.h"
+#include "limits.h"
 
 #include <stdio.h>
-#include <stdlib.h>
 #include <string.h>
-
-#define ROOM 65536 /* for any file or output here; no limit of the library */
-#define MARK 0xa5  /* what out holds before a call */
-#define COUNT_OF(array) (sizeof (array) / sizeof (array)[0])
-
-enum call { JUDGE, PLAN, REPLAY, LOSS, CALLS };
-
-static const char *const call_names[CALLS] = {
-    "seqopchi_judge", "seqopchi_plan", "seqopchi_replay", "seqopchi_replay_loss"
-};
-
-/* The numbers of a job and of a plan. */
-enum field {
-    VERSION, NODES, DETECT, TASKS, READY, DEADLINE, RUN, LINKS, FROM, TO, DELAY,
-    PLAN_VERSION, ROWS, PRIMARY, PRIMARY_START, BACKUP, BACKUP_START, FIELDS
-};
-
-static const char *const field_names[FIELDS] = {
-    "version", "nodes", "detect time", "tasks", "ready time", "deadline", "run time",
-    "links", "from", "to", "delay", "version of the plan", "rows", "primary's node",
-    "primary's start", "backup's node", "backup's start"
-};
-
-/* Well inside all limits, with tasks enough for the most links. The rows of the plan
- * are alike and their backups early, so that a rule refuses a plan that reads well. */
-static const uint32_t usual[FIELDS] = {
-    [NODES] = 3, [DETECT] = 1, [TASKS] = 40, [DEADLINE] = 9999, [RUN] = 4,
-    [LINKS] = 2, [DELAY] = 2, [PLAN_VERSION] = SEQOPCHI_PLAN_VERSION, [BACKUP] = 1
-};
-
-#define OLDEST_JOB_VERSION 1
-#define READY_VERSION 2 /* the first with ready times */
 
 /* The longest job of each version, from the papers. */
 static const size_t longest[SEQOPCHI_NEWEST_JOB_VERSION + 1] = { 0, 10576, 10832 };
 
-struct file {
-    size_t length;
-    size_t at[FIELDS]; /* where the last number of each kind stands */
-    uint8_t data[ROOM];
-};
-
-static uint32_t version;         /* the usual one of a job */
-static uint32_t numbers[FIELDS]; /* what the files are made of */
-static struct file job, plan;
-static uint8_t out[ROOM];
-static uint32_t lost_node, lost_moment;
-static char subject[120]; /* what is checked, for the message */
-static unsigned long calls;
-
-static void about(const char *name, const char *what, unsigned long number)
-{
-    snprintf(subject, sizeof subject, "%s, %s %lu, usual job version %lu", name, what,
-             number, (unsigned long)version);
-}
-
-static void check(int fine, const char *fault)
-{
-    if (fine)
-        return;
-    fprintf(stderr, "limits: %s: %s\n", subject, fault);
-    exit(1);
-}
-
-static void set_number(struct file *f, enum field field, uint32_t number)
-{
-    for (int i = 0; i < 4; i++)
-        f->data[f->at[field] + i] = (uint8_t)(number >> 8 * i);
-}
-
-static void put(struct file *f, enum field field, uint32_t number)
-{
-    check(f->length + 4 < ROOM, "the file is too long for this program");
-    f->at[field] = f->length;
-    f->length += 4;
-    set_number(f, field, number);
-}
-
-/* Fewer links than asked for where there are fewer pairs of tasks. */
-static void write_links(void)
-{
-    uint32_t tasks = numbers[TASKS], pairs = tasks * (tasks - 1) / 2, left;
-
-    if (numbers[LINKS] > pairs)
-        numbers[LINKS] = pairs;
-    left = numbers[LINKS];
-    put(&job, LINKS, left);
-    for (uint32_t from = 0; from < tasks; from++)
-        for (uint32_t to = from + 1; to < tasks && left > 0; to++, left--) {
-            put(&job, FROM, from);
-            put(&job, TO, to);
-            put(&job, DELAY, numbers[DELAY]);
-        }
-}
-
-static void write_job(void)
-{
-    job.length = 0;
-    put(&job, VERSION, numbers[VERSION]);
-    put(&job, NODES, numbers[NODES]);
-    for (uint32_t node = 0; node < numbers[NODES]; node++)
-        put(&job, DETECT, numbers[DETECT]);
-    put(&job, TASKS, numbers[TASKS]);
-    for (uint32_t task = 0; task < numbers[TASKS]; task++) {
-        if (numbers[VERSION] >= READY_VERSION)
-            put(&job, READY, numbers[READY]);
-        put(&job, DEADLINE, numbers[DEADLINE]);
-        for (uint32_t node = 0; node < numbers[NODES]; node++)
-            put(&job, RUN, numbers[RUN]);
-    }
-    write_links();
-}
-
-static void write_plan(void)
-{
-    plan.length = 0;
-    put(&plan, PLAN_VERSION, numbers[PLAN_VERSION]);
-    put(&plan, ROWS, numbers[TASKS]);
-    for (uint32_t task = 0; task < numbers[TASKS]; task++)
-        for (int field = PRIMARY; field <= BACKUP_START; field++)
-            put(&plan, field, numbers[field]);
-}
-
-/* The usual files with one number changed. */
-static void write_files(enum field field, uint32_t number)
-{
-    memcpy(numbers, usual, sizeof numbers);
-    numbers[VERSION] = version;
-    numbers[field] = number;
-    write_job();
-    write_plan();
-}
-
-static uint64_t result_of(enum call call, size_t out_len)
-{
-    calls++;
-    memset(out, MARK, sizeof out);
-    switch (call) {
-    case JUDGE:
-        return seqopchi_judge(job.data, job.length, plan.data, plan.length);
-    case PLAN:
-        return seqopchi_plan(job.data, job.length, out, out_len);
-    case REPLAY:
-        return seqopchi_replay(job.data, job.length, plan.data, plan.length,
-                               out, out_len);
-    default:
-        return seqopchi_replay_loss(job.data, job.length, plan.data, plan.length,
-                                    lost_node, lost_moment, out, out_len);
-    }
-}
-
-static void check_result(int fine, enum call call, uint64_t r, const char *wanted)
-{
-    char fault[160];
-    unsigned number = seqopchi_number(r);
-
-    snprintf(fault, sizeof fault, "%s gives %u (%s) %lu / %lu, not %s",
-             call_names[call], number, seqopchi_word(number),
-             (unsigned long)seqopchi_first(r), (unsigned long)seqopchi_second(r), wanted);
-    check(fine, fault);
-}
-
-static void expect(enum call call, size_t out_len, unsigned number,
-                   size_t first, size_t second)
-{
-    uint64_t r = result_of(call, out_len);
-    int same = seqopchi_number(r) == number && seqopchi_first(r) == first
-        && seqopchi_second(r) == second;
-    char wanted[80];
-
-    snprintf(wanted, sizeof wanted, "%u (%s) %lu / %lu", number, seqopchi_word(number),
-             (unsigned long)first, (unsigned long)second);
-    check_result(same, call, r, wanted);
-}
-
-/* Both files read well: the judge gets to the rules, the others lack room. */
+/* Both files read well: judge, ask and commit get to the rules, the others lack
+ * room. */
 static void expect_read(void)
 {
     for (int call = JUDGE; call < CALLS; call++) {
         uint64_t r = result_of(call, 0);
         unsigned number = seqopchi_number(r);
 
-        if (call == JUDGE)
-            check_result(number >= SEQOPCHI_REFUSED_SAME_NODE, call, r, "a rule");
+        if (call == JUDGE || call == ASK || call == COMMIT)
+            check_result(number >= SEQOPCHI_REFUSED_SAME_NODE
+                         && r == result_of(JUDGE, 0), call, r, "a rule");
         else
-            check_result(number == SEQOPCHI_REFUSED_SHORT_BUFFER, call, r, "short buffer");
+            check_result(number == SEQOPCHI_REFUSED_SHORT_BUFFER, call, r,
+                         "short buffer");
     }
 }
 
@@ -339,7 +170,9 @@ static const struct { unsigned number; const char *word; } words[] = {
     { SEQOPCHI_REFUSED_NO_BACKUP, "no backup" },
     { SEQOPCHI_REFUSED_SHORT_BUFFER, "short buffer" },
     { SEQOPCHI_REFUSED_NO_SUCH_NODE, "no such node" },
-    { SEQOPCHI_REFUSED_TOO_SOON, "too soon" }
+    { SEQOPCHI_REFUSED_TOO_SOON, "too soon" },
+    { SEQOPCHI_REFUSED_FULL, "full" },
+    { SEQOPCHI_REFUSED_STALE, "stale" }
 };
 
 static void check_words(void)
@@ -460,6 +293,7 @@ static void check_version(void)
     check_outcomes(0, SEQOPCHI_NOT_STARTED, SEQOPCHI_FINISHED);
     check_outcomes(3, SEQOPCHI_CUT, SEQOPCHI_FINISHED);
     check_outcomes(4, SEQOPCHI_FINISHED, SEQOPCHI_NOT_STARTED);
+    check_asking();
     if (version < READY_VERSION)
         return;
     check_too_soon();

@@ -5,9 +5,9 @@ use std::process::ExitCode;
 use std::time::Instant;
 use std::{env, fs};
 
-use compare::console::{plan_bytes, replay_bytes, Console};
+use compare::console::{plan_bytes, replay_bytes, Console, Places};
 use compare::foreign::{LIBRARY, PLAIN, TUNED};
-use compare::sized::{planned, PlannedJob};
+use compare::sized::{asked, planned, AskedJob, PlannedJob};
 
 const DEFAULT_ROUNDS: usize = 2001;
 
@@ -25,6 +25,7 @@ const SAMPLE_NANOSECONDS: f64 = 20_000.0;
 struct Case {
     name: &'static str,
     sized: PlannedJob,
+    asked: AskedJob,
 }
 
 #[derive(Clone, Copy)]
@@ -35,15 +36,30 @@ enum Work {
     Plan,
     Replay,
     ReplayLoss,
+    // On a job of 64 tasks they would be refused as full. There the job has a task fewer, and the
+    // links of the one that is asked for: the longer job has the size of the other rows.
+    Ask,
+    Commit,
 }
 
-const WORKS: [(Work, &str); 5] = [
+const WORKS: [(Work, &str); 7] = [
     (Work::Reading, "reading the job"),
     (Work::Judge, "judge"),
     (Work::Plan, "plan"),
     (Work::Replay, "replay"),
     (Work::ReplayLoss, "replay_loss"),
+    (Work::Ask, "ask"),
+    (Work::Commit, "commit"),
 ];
+
+/// All that a call may write.
+#[derive(PartialEq)]
+struct Output {
+    bytes: Vec<u8>,
+    places: Places,
+    longer_job: Vec<u8>,
+    longer_plan: Vec<u8>,
+}
 
 fn main() -> ExitCode {
     let words: Vec<String> = env::args().skip(1).collect();
@@ -63,7 +79,7 @@ fn main() -> ExitCode {
                 println!("{}, {name}: the sides differ", case.name);
                 return ExitCode::FAILURE;
             }
-            print_row(&case, name, &time(&case, work, rounds));
+            print_row(&case, work, name, &time(&case, work, rounds));
         }
     }
     ExitCode::SUCCESS
@@ -86,8 +102,10 @@ fn processor() -> String {
     line.and_then(|line| line.split(": ").nth(1)).unwrap_or("an unnamed processor").to_string()
 }
 
-fn print_row(case: &Case, function: &str, times: &Times) {
-    let PlannedJob { nodes, tasks, links, .. } = case.sized;
+fn print_row(case: &Case, work: Work, function: &str, times: &Times) {
+    let is_asked = matches!(work, Work::Ask | Work::Commit);
+    let job = if is_asked { &case.asked.held } else { &case.sized };
+    let PlannedJob { nodes, tasks, links, .. } = job;
     let least = |side: &Vec<f64>| side[0] / 1000.0;
     let median = |side: &Vec<f64>| side[side.len() / 2] / 1000.0;
     print!("| {} | {nodes} | {tasks} | {links} | {function} ", case.name);
@@ -116,23 +134,35 @@ fn cases() -> Vec<Case> {
 }
 
 fn case(name: &'static str, version: u64, nodes: usize, tasks: usize, links: usize) -> Case {
-    Case { name, sized: planned(version, nodes, tasks, links) }
+    let (sized, asked) =
+        (planned(version, nodes, tasks, links), asked(version, nodes, tasks, links));
+    Case { name, sized, asked }
 }
 
-fn call(console: &Console, case: &Case, work: Work, out: &mut [u8]) -> u64 {
+fn call(console: &Console, case: &Case, work: Work, out: &mut Output) -> u64 {
     let PlannedJob { job, plan, loss, .. } = &case.sized;
+    let AskedJob { held, task, booking, .. } = &case.asked;
+    let Output { bytes, places, longer_job, longer_plan } = out;
     match work {
         Work::Reading => (console.judge)(job, &[]),
         Work::Judge => (console.judge)(job, plan),
-        Work::Plan => (console.plan)(job, out),
-        Work::Replay => (console.replay)(job, plan, None, out),
-        Work::ReplayLoss => (console.replay)(job, plan, Some(*loss), out),
+        Work::Plan => (console.plan)(job, bytes),
+        Work::Replay => (console.replay)(job, plan, None, bytes),
+        Work::ReplayLoss => (console.replay)(job, plan, Some(*loss), bytes),
+        Work::Ask => (console.ask)(&held.job, &held.plan, task, places),
+        Work::Commit => (console.commit)(&held.job, &held.plan, booking, longer_job, longer_plan),
     }
 }
 
-fn output(case: &Case) -> Vec<u8> {
+fn output(case: &Case) -> Output {
     let tasks = case.sized.tasks;
-    vec![0; plan_bytes(tasks).max(replay_bytes(tasks))]
+    let (job, plan) = case.asked.rooms;
+    Output {
+        bytes: vec![0; plan_bytes(tasks).max(replay_bytes(tasks))],
+        places: [0; 4],
+        longer_job: vec![0; job],
+        longer_plan: vec![0; plan],
+    }
 }
 
 /// All sides do the same work, or the times say nothing.
@@ -159,7 +189,7 @@ fn time(case: &Case, work: Work, rounds: usize) -> Times {
     times
 }
 
-fn sample(console: &Console, case: &Case, work: Work, out: &mut [u8], repeats: usize) -> f64 {
+fn sample(console: &Console, case: &Case, work: Work, out: &mut Output, repeats: usize) -> f64 {
     let start = Instant::now();
     for _ in 0..repeats {
         black_box(call(console, black_box(case), work, out));
@@ -167,7 +197,7 @@ fn sample(console: &Console, case: &Case, work: Work, out: &mut [u8], repeats: u
     start.elapsed().as_nanos() as f64 / repeats as f64
 }
 
-fn repeats(console: &Console, case: &Case, work: Work, out: &mut [u8]) -> usize {
+fn repeats(console: &Console, case: &Case, work: Work, out: &mut Output) -> usize {
     let tries = (0..20).map(|_| sample(console, case, work, out, 10));
     let quickest = tries.fold(f64::INFINITY, f64::min);
     ((SAMPLE_NANOSECONDS / quickest) as usize).max(1)

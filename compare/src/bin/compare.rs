@@ -8,18 +8,22 @@ use compare::console::{Console, SECOND};
 use compare::foreign::{LIBRARY, PLAIN, TUNED};
 use compare::random::Random;
 use compare::refusal::WORDS;
-use compare::rounds;
-use compare::trial::{Mismatch, Tally, Trial};
+use compare::tally::Tally;
+use compare::trial::{Mismatch, Trial};
+use compare::{entries, fills, rounds, sequences};
 
 const DEFAULT_COUNT: u64 = 5_000;
 const DEFAULT_SEED: u64 = 1;
+
+/// So many jobs for each one that is filled with tasks, and one with links.
+const ROUNDS_A_FILL: u64 = 200;
 
 const USAGE: &str = "usage: compare [--count JOBS] [--seed NUMBER] [--out FOLDER] [--pair FOLDER]
                [--console library|plain|tuned|second]
   --count    random jobs to try
   --seed     where the random numbers start
-  --out      where job.bin and plan.bin are written after a mismatch (default: here)
-  --pair     try job.bin and plan.bin of a folder instead of random jobs
+  --out      where job.bin, plan.bin and task.bin are written after a mismatch (default: here)
+  --pair     try these of a folder instead of random jobs
   --console  which implementation to hold to the second one (default: library)";
 
 struct Options {
@@ -89,8 +93,18 @@ fn try_random(trial: &mut Trial, options: &Options) -> Result<(), Mismatch> {
         "{} against second: {} jobs, seed {}",
         trial.console.name, options.count, options.seed
     );
-    let mut random = Random::new(options.seed);
-    (0..options.count).try_for_each(|_| rounds::round(trial, &mut random))
+    // Two sources, so that the rounds of a seed are the same whatever the sequences draw.
+    let (mut random, mut other) = (Random::new(options.seed), Random::new(!options.seed));
+    for round in 0..options.count {
+        rounds::round(trial, &mut random)?;
+        sequences::sequence(trial, &mut other)?;
+        match round % ROUNDS_A_FILL {
+            0 => fills::fill_tasks(trial, &mut other)?,
+            1 => fills::fill_links(trial, &mut other)?,
+            _ => {}
+        }
+    }
+    Ok(())
 }
 
 fn try_pair(trial: &mut Trial, folder: &Path) -> Result<(), Mismatch> {
@@ -99,12 +113,18 @@ fn try_pair(trial: &mut Trial, folder: &Path) -> Result<(), Mismatch> {
         let path = folder.join(name);
         fs::read(&path).unwrap_or_else(|error| panic!("{}: {error}", path.display()))
     };
-    rounds::pair(trial, &read("job.bin"), &read("plan.bin"))
+    let (job, plan) = (read("job.bin"), read("plan.bin"));
+    rounds::pair(trial, &job, &plan)?;
+    match fs::read(folder.join("task.bin")) {
+        Ok(entry) => entries::entry(trial, &job, &plan, &entry),
+        Err(_) => Ok(()),
+    }
 }
 
 fn report(mismatch: &Mismatch, folder: &Path) {
     println!("MISMATCH: {}", mismatch.text);
-    for (name, bytes) in [("job.bin", &mismatch.job), ("plan.bin", &mismatch.plan)] {
+    let Mismatch { job, plan, entry, .. } = mismatch;
+    for (name, bytes) in [("job.bin", job), ("plan.bin", plan), ("task.bin", entry)] {
         let path = folder.join(name);
         match fs::write(&path, bytes) {
             Ok(()) => println!("written: {}", path.display()),
@@ -120,6 +140,7 @@ fn missed(tally: &Tally, count: u64) -> Vec<String> {
         numbers.map(|number| format!("refusal {number}, {}, was not met", WORDS[number])).collect();
     if count >= DEFAULT_COUNT {
         let short = tally.counts().filter(|count| count.met < count.least);
+        complaints.extend(tally.not_given());
         complaints.extend(short.map(|c| format!("{}: {}, not {}", c.words, c.met, c.least)));
     }
     complaints

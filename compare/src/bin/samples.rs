@@ -1,5 +1,5 @@
-//! Runs the samples of document 01 and of request (ii) on all implementations, and looks at the
-//! library's stack.
+//! Runs the samples of document 01 and of requests (ii) and (iii) on all implementations, and looks
+//! at the library's stack.
 
 use std::process::ExitCode;
 

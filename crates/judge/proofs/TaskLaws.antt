@@ -28,18 +28,19 @@ use Rattle.judge.specs.Parts.{byTasks}
 use Rattle.judge.specs.Tasks.{CopyFits, copyOn, Placeable, Tabled, TasksJudged}
 use Rattle.judge.proofs.NoteLaws.{note-start, note-more, note-seen}
 
+-- a copy of a task on a node of the job fits
+pub copy-fits : (job : Job) → Sound job → (j n s : ℕ) → j < tasks job → n < nodes job → s ≤ maxStart → CopyFits (task job j) n s
+copy-fits job sound j n s p q b = record { on = omega (arith, sound .nodes-most); ends = omega (arith, sound .run-most j n p q) }
+
 -- a sound job and a plan of it have what the pass rests on
 pub placeable : (job : Job) (plan : Plan) → Sound job → PlanSound job plan → Placeable (job .tasks) (job .nodes) (tasks job) plan
 placeable job plan sound reads =
     record {
       few = sound .tasks-most;
-      primary = λ j p. fits j _ _ p (reads .primary-node j p) (reads .primary-start j p);
-      backup = λ j p. fits j _ _ p (reads .backup-node j p) (reads .backup-start j p);
+      primary = λ j p. copy-fits job sound j _ _ p (reads .primary-node j p) (reads .primary-start j p);
+      backup = λ j p. copy-fits job sound j _ _ p (reads .backup-node j p) (reads .backup-start j p);
       detects = λ j p. sound .detect-most _ (reads .primary-node j p);
     }
-  where
-    fits : (j n s : ℕ) → j < tasks job → n < nodes job → s ≤ maxStart → CopyFits (task job j) n s
-    fits j n s p q b = record { on = omega (arith, sound .nodes-most); ends = omega (arith, sound .run-most j n p q) }
 
 pub detect-fits : (job : Job) (plan : Plan) → Placeable (job .tasks) (job .nodes) (tasks job) plan → (j : ℕ) → j < tasks job
     → (p : Copy) → p ≡ copyOn (task job j) (place plan j .«primary_node») (place plan j .«primary_start»)

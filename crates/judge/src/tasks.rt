@@ -22,7 +22,7 @@ ghost use Rattle.copies.specs.Table.{table, Whole};
 ghost use Rattle.judge.specs.Notes.{seen};
 ghost use Rattle.judge.specs.Tasks.{CopyFits, copyOn, tasked, Placeable, TasksJudged};
 
-fn copy_of(task: Task, node: u32, start: u32) -> Copy
+pub fn copy_of(task: Task, node: u32, start: u32) -> Copy
     requires { ⌜ CopyFits task node start ⌝ }
     ensures { λ r. ⌜ (r ≡ copyOn task node start) × (r .node < maxNodes) ⌝ }
 {

@@ -3,7 +3,7 @@ use Prim.Native.Nat.{ℕ, suc, _+_, _-_, _*_, _≤_, _<_, max}
 use mathlib.Core.Bool.{Bool, true, false, not}
 use mathlib.Core.List.{List}
 use mathlib.Core.Option.{some}
-use mathlib.Core.Path.{_≡_, refl, sym, _∙_, ap, ap₂, subst, fun-ext}
+use mathlib.Core.Path.{_≡_, refl, sym, _∙_, ap, ap₂, subst}
 use lib.Bits.{bitAnd}
 use lib.Dec.{leb, ltb, eqb}
 use lib.ListN.{getD}
@@ -12,17 +12,17 @@ use native.Mathlib.Omega.{arith}
 use Rattle.reader.specs.declared.job.Job.{Job}
 use Rattle.reader.specs.declared.job.Task.{Task}
 use Rattle.reader.specs.declared.refusal.Refusal.the-variants.{NoPrimary, NoBackup}
-use Rattle.reader.specs.Tests.{_and_, _or_, _implies_}
+use Rattle.reader.specs.Tests.{_and_, _implies_}
 use Rattle.reader.specs.First.{every, when}
-use Rattle.reader.specs.Limits.{maxNodes, maxTime}
+use Rattle.reader.specs.Limits.{maxNodes, maxTime, maxStart}
 use Rattle.reader.specs.Entries.{nodes, tasks, links, link, task, deadline, detect, run, noNode}
 use Rattle.reader.specs.Sound.{Sound}
-use Rattle.reader.proofs.TestLaws.{split, clash, not-i, not-e, not-true, and-yes, and-no, and-unless, and-join}
-use Rattle.reader.proofs.FirstLaws.{first-same, every-same, any-same}
+use Rattle.reader.proofs.TestLaws.{split, clash, not-i, not-e, not-true, and-yes, and-no, and-join}
+use Rattle.reader.proofs.FirstLaws.{first-same, every-same}
 use Rattle.rules.specs.declared.Copy.{Copy}
 use Rattle.rules.specs.Copies.{copy, inTime, domain}
 use Rattle.rules.specs.Copies.{delay as delayOfLink}
-use Rattle.rules.specs.Rules.{Row, row, strong, carries, faultSet, ruleA, ruleReady, ruleB, ruleD, ruleE, ruleF, ruleGBackup}
+use Rattle.rules.specs.Rules.{Row, row, faultSet, ruleA, ruleReady, ruleB, ruleD, ruleE, ruleF, ruleGBackup}
 use Rattle.rules.specs.Attempts.{_>>=_, _or-refuse_}
 use Rattle.rules.specs.Planner.{earliest, primaryKeeps, primaryMay, backupKeeps, placeTask}
 use Rattle.rules.specs.Choice.{Best, backupKeepsBeside}
@@ -31,25 +31,24 @@ use Rattle.rules.proofs.FaultSetLaws.{faults-here}
 use Rattle.copies.specs.declared.table.Copies.{Copies}
 use Rattle.copies.specs.Sets.{has, meets, everyNode}
 use Rattle.copies.specs.Arrival.{delayOf, inTimeOf}
-use Rattle.copies.specs.Table.{entry, setAt, rowOf}
+use Rattle.copies.specs.Table.{setAt, rowOf}
 use Rattle.copies.specs.Clash.{free}
 use Rattle.copies.proofs.SetLaws.{has-none, has-both, empty-set}
 use Rattle.copies.proofs.ArrivalLaws.{leb-max, backup-fed}
 use Rattle.copies.proofs.ChainLaws.{chain-of, chain-within}
 use Rattle.copies.proofs.ClashLaws.{free-last, free-primary, free-backup}
-use Rattle.planner.specs.declared.senders.Sender.{Sender}
 use Rattle.planner.specs.declared.inputs.Ready.{Ready}
 use Rattle.planner.specs.declared.search.Search.{Search}
 use Rattle.planner.specs.declared.slot.Slot.{Slot}
 use Rattle.planner.specs.declared.slot.Slot.the-variants.{At, Nothing}
 use Rattle.planner.specs.declared.task.Want.{Want}
 use Rattle.planner.specs.declared.task.Placing.the-variants.{At as Placed, Nowhere}
-use Rattle.planner.specs.Senders.{senderAt, latestInput, Sending}
+use Rattle.planner.specs.Senders.{latestInput, Sending}
 use Rattle.planner.specs.Search.{slotCopy, tryAt, bestOf, freeFrom, nodeOk, fits, primarySearch, backupSearch, Searched}
 use Rattle.planner.specs.Inputs.{readyOn, fedBy, Given}
-use Rattle.planner.specs.Faults.{carriesFrom, Faulted}
+use Rattle.planner.specs.Faults.{Faulted}
 use Rattle.planner.specs.Tasks.{primaryFrom, Wanted, attempted}
-use Rattle.planner.proofs.SentLaws.{into-every, into-any, into-sending}
+use Rattle.planner.proofs.SentLaws.{into-every, into-sending, sends, sends-is, into-faults}
 
 -- searches that agree on every place that may count
 gate : (a b x y : Bool) (c : Copy) → (a ≡ true → b ≡ true → x ≡ y) → when (a and b and x) c ≡ when (a and b and y) c
@@ -74,11 +73,11 @@ best-earliest job j t n is-t is-n ok good h =
     ap₂ (λ t n. bestOf (t .run) (suc (t .deadline)) ok n) is-t is-n
     ∙ earliest-same job j ok good (λ n s pn able. h (copy job j n s) pn (omega arith))
 
--- what holds of a copy that a search found
+-- what holds of a copy that a search found, and of one that a plan may have
 pub record Found (job : Job) (c : Copy) : Type 0 where
   pub node : c .node < nodes job
   pub lasts : c .start < c .finish
-  pub ends : c .finish ≤ maxTime
+  pub ends : c .finish ≤ maxStart + maxTime
 
 pub best-found : (job : Job) (j : ℕ) (keeps : Copy → Bool) (c : Copy) → Sound job → j < tasks job → Best job j keeps c → Found job c
 unfolding copy
@@ -89,6 +88,11 @@ best-found job j keeps c sound p best =
       lasts = omega (arith, best .place .able .runs);
       ends = omega (arith, best .place .able .in-time, sound .deadline-most j p);
     }
+
+-- a fault set has the primary's node
+pub faults-own : (job : Job) (t : ℕ → Row) (j : ℕ) (p : Copy) (set : ℕ) → has set ≡ faultSet job t j p → has set (p .node) ≡ true
+unfolding domain
+faults-own job t j p set e = ap (λ f. f (p .node)) e ∙ faults-here job t j p (p .node) (eq-eqb (p .node) (p .node) refl)
 
 -- nothing meets the empty set
 meets-none : (z : ℕ) → meets z 0 ≡ false
@@ -171,24 +175,15 @@ module _ (next from delay : List ℕ) (cs : Copies) (before last : List ℕ) (wa
   abbrev Fed : ℕ → Ready → Type 0
   Fed set r = Given next from delay cs (want .into) set r
 
-  -- what comes by link m
-  abbrev sends : ℕ → Sender
-  sends m =
-      let k = 2 * link job m .from in
-      record { primary = entry cs k; backup = entry cs (k + 1); set = setAt cs (k + 1); delay = link job m .delay; next = getD next m 0 }
-
-  sends-is : (m : ℕ) → m < links job → senderAt next from delay cs m ≡ sends m
-  sends-is m b = rw (w .into .froms m b, w .into .delays m b)
-
   fed-is : (set : ℕ) (r : Ready) → Fed set r → (c : Copy) (t : ℕ → Bool)
-      → ((m : ℕ) → m < links job → key m ≡ j → fedBy set c (sends m) ≡ t m)
+      → ((m : ℕ) → m < links job → key m ≡ j → fedBy set c (sends job next cs m) ≡ t m)
       → leb (readyOn r (c .node)) (c .start) ≡ every (links job) (λ m. eqb (key m) j implies t m)
   unfolding _implies_
   fed-is set r given c t h =
       given .ready key j (w .into .chain) c
       ∙ into-every job next from delay j (want .into) (w .into) _ (λ m h. rw (ne-eqb (key m) j h))
       ∙ every-same (links job) _ _ (λ m b. split (eqb (key m) j)
-      (λ e. rw e (ap (fedBy set c) (sends-is m b) ∙ h m b (eqb-true (key m) j e)))
+      (λ e. rw e (ap (fedBy set c) (sends-is job next from delay j (want .into) (w .into) cs m b) ∙ h m b (eqb-true (key m) j e)))
       (λ e. rw e))
 
   -- the least start of the primary, whatever its inputs
@@ -252,15 +247,7 @@ module _ (next from delay : List ℕ) (cs : Copies) (before last : List ℕ) (wa
         -- with this fault set
         module _ (set : ℕ) (is-set : Faulted next from delay cs (want .into) p set) where
           faults : has set ≡ faultSet job (rowOf cs) j p
-          unfolding faultSet carries strong inTime inTimeOf delayOfLink delayOf rowOf domain
-          faults =
-              fun-ext λ q. is-set key j (w .into .chain) q ∙ ap (λ b. eqb (p .node) q or b)
-              (into-any job next from delay j (want .into) (w .into) _ (λ m h. and-unless _ _ (ne-eqb (key m) j h))
-              ∙ any-same (links job) _ _ (λ m b. ap (λ x. eqb (key m) j and carriesFrom p q x) (sends-is m b)))
-
-          faults-own : has set (p .node) ≡ true
-          unfolding domain
-          faults-own = ap (λ f. f (p .node)) faults ∙ faults-here job (rowOf cs) j p (p .node) (eq-eqb (p .node) (p .node) refl)
+          faults = into-faults job next from delay j (want .into) (w .into) cs p set is-set
 
           abbrev the-row : Copy → Row
           the-row b = row job (rowOf cs) j p b
@@ -285,7 +272,8 @@ module _ (next from delay : List ℕ) (cs : Copies) (before last : List ℕ) (wa
           unfolding row
           g-is b on q =
               free-all set b on
-              ∙ free-backup job cs (w .rows) (w .sound .nodes-most) (w .beside .held) b q set (p .node) (the-row b) refl faults (p-found .node) faults-own
+              ∙ free-backup job cs (w .rows) (w .sound .nodes-most) (w .beside .held) b q set (p .node) (the-row b) refl faults (p-found .node)
+              (faults-own job (rowOf cs) j p set faults)
 
           -- and the backup's search
           module _ (late : Ready) (more : Fed set late) (t : Search) (is-t : t ≡ backupSearch (want .task) (want .count) late least set) where

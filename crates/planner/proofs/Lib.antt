@@ -7,5 +7,7 @@ pub mod BestLaws
 pub mod SentLaws
 pub mod KeepsLaws
 pub mod BookLaws
+pub mod StoreLaws
+pub mod WantLaws
 pub mod TaskLaws
 pub mod PlannedLaws

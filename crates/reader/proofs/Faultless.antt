@@ -56,7 +56,7 @@ module _ (s : List ℕ) where
   unfolding nodeFault
   good-node at p run g = or-else-i _ _ (good-field s _ _ _ _ (g .number)) (none-unless _ _ (lt-ltb 0 (getD run (numberAt s at) 0) (g .able)))
 
-  good-place : (at p : ℕ) (run : List ℕ) → GoodPlace s at p run → placeFault s at p run ≡ none
+  pub good-place : (at p : ℕ) (run : List ℕ) → GoodPlace s at p run → placeFault s at p run ≡ none
   unfolding placeFault
   good-place at p run g =
       or-else-i _ _ (good-node _ _ _ (g .primary-node))

@@ -59,10 +59,10 @@ module _ (s : List ℕ) where
   unfolding fieldFault
   field-fits at low high r h f = fits-or-else _ _ (fits-unless _ (Short at) (fits-at 1 at (omega arith) h)) (λ _. fits-unless _ r f)
 
-  count-fits : (at low high : ℕ) → at < 2 ^ 32 → FaultFits (countFault s at low high)
+  pub count-fits : (at low high : ℕ) → at < 2 ^ 32 → FaultFits (countFault s at low high)
   count-fits at low high h = field-fits at low high (Count at) h (fits-at 3 at (omega arith) h)
 
-  value-fits : (at low high : ℕ) → at < 2 ^ 32 → FaultFits (valueFault s at low high)
+  pub value-fits : (at low high : ℕ) → at < 2 ^ 32 → FaultFits (valueFault s at low high)
   value-fits at low high h = field-fits at low high (Value at) h (fits-at 4 at (omega arith) h)
 
   fields-fit : (v at : ℕ) (fs : List Field) → at + 4 * length fs ≤ 2 ^ 17 → FaultFits (fieldsFault v s at fs)
@@ -79,7 +79,7 @@ module _ (s : List ℕ) where
       let g = field-good s nodeSection minNodes maxNodes (Count nodeSection) e in
       fits-first _ _ (λ i p. fields-fit v _ nodeFields (omega (arith, task-section-most v i (omega arith), fields-wide .0))))
 
-  task-fits : (v at p : ℕ) → at ≤ 2 ^ 16 → p ≤ maxNodes → FaultFits (taskFault v s at p)
+  pub task-fits : (v at p : ℕ) → at ≤ 2 ^ 16 → p ≤ maxNodes → FaultFits (taskFault v s at p)
   unfolding taskFault runFault
   task-fits v at p h m =
       fits-or-else _ _ (fields-fit v at taskFields (omega (arith, fields-wide .1))) (λ _.
@@ -110,7 +110,7 @@ module _ (s : List ℕ) where
       let g = field-good s at 0 maxLinks (Count at) e in
       fits-first _ _ (λ k l. link-fits _ n _ (omega arith)))
 
-  tail-fits : (end : ℕ) → end < 2 ^ 32 → FaultFits (tailFault s end)
+  pub tail-fits : (end : ℕ) → end < 2 ^ 32 → FaultFits (tailFault s end)
   unfolding tailFault
   tail-fits end h = fits-unless _ (Tail end) (fits-at 6 end (omega arith) h)
 
@@ -118,7 +118,7 @@ module _ (s : List ℕ) where
   unfolding nodeFault
   node-fits at p run h = fits-or-else _ _ (value-fits at 0 (p - 1) h) (λ _. fits-unless _ (Unable at) (fits-at 7 at (omega arith) h))
 
-  place-fits : (at p : ℕ) (run : List ℕ) → at ≤ 2 ^ 16 → FaultFits (placeFault s at p run)
+  pub place-fits : (at p : ℕ) (run : List ℕ) → at ≤ 2 ^ 16 → FaultFits (placeFault s at p run)
   unfolding placeFault
   place-fits at p run h =
       fits-or-else _ _ (node-fits at p run (omega arith)) (λ _.

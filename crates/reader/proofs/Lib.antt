@@ -21,4 +21,5 @@ pub mod Compatible
 pub mod EntryLaws
 pub mod Promise
 pub mod PackingLaws
+pub mod FrontLaws
 pub mod FitLaws

@@ -9,12 +9,12 @@ use lib.ListN.{getD}
 use Rattle.reader.specs.declared.job.Task.{Task}
 use Rattle.reader.specs.declared.job.Link.{Link}
 use Rattle.reader.specs.declared.job.Job.{Job}
-use Rattle.reader.specs.declared.plan.Place.{Place}
+use Rattle.reader.specs.declared.plan.Plan.{Plan}
 use Rattle.reader.specs.declared.refusal.Refusal.{Refusal}
 use Rattle.reader.specs.declared.refusal.Answer.the-variants.{Done}
-use Rattle.reader.specs.Limits.{minTasks, maxNodes, maxTime, maxStart}
+use Rattle.reader.specs.Limits.{planVersion, minTasks, maxNodes, maxTime}
 use Rattle.reader.specs.Entries.{nodes, tasks, node, task, link, place, emptyJob, emptyPlan}
-use Rattle.reader.specs.Sound.{below, Sound, PlanSound}
+use Rattle.reader.specs.Sound.{below, Sound, SoundPlace, PlanSound}
 use Rattle.reader.specs.JobFile.{jobVersion, nodeCount, taskCount, linkCount, nodeAt, taskAt, linkAt, linkBefore, jobFault, jobAt, unlessFault}
 use Rattle.reader.specs.JobFile.{readJob, JobDone}
 use Rattle.reader.specs.Fields.{nodeFields, taskFields, nodeValues, taskValues, reaches, width, fieldsAt}
@@ -36,7 +36,7 @@ pub record SoundTask (v p : ℕ) (t : Task) : Type 0 where
   pub fields : AllWithin v taskFields (taskValues t)
   pub run : (i : ℕ) → i < p → getD (t .run) i 0 ≤ maxTime
 
-task-sound : (v : ℕ) (s : List ℕ) (at p : ℕ) → p ≤ maxNodes → GoodTask v s at p → SoundTask v p (taskAt v s at p)
+pub task-sound : (v : ℕ) (s : List ℕ) (at p : ℕ) → p ≤ maxNodes → GoodTask v s at p → SoundTask v p (taskAt v s at p)
 unfolding taskAt fieldsAt taskFields
 task-sound v s at p m g = record {
   fields = fields-within v s at taskFields (g .fields);
@@ -52,15 +52,7 @@ link-sound : (s : List ℕ) (at n : ℕ) (before : Link) → minTasks ≤ n → 
 unfolding linkAt
 link-sound s at n before m g = record { rise = omega (arith, g .to); into = omega (arith, g .to); delay = g .delay .most }
 
-pub record SoundPlace (p : ℕ) (run : List ℕ) (x : Place) : Type 0 where
-  pub primary-node : x .«primary_node» < p
-  pub primary-able : 0 < getD run (x .«primary_node») 0
-  pub primary-start : x .«primary_start» ≤ maxStart
-  pub backup-node : x .«backup_node» < p
-  pub backup-able : 0 < getD run (x .«backup_node») 0
-  pub backup-start : x .«backup_start» ≤ maxStart
-
-place-sound : (s : List ℕ) (at p : ℕ) (run : List ℕ) → 0 < p → GoodPlace s at p run → SoundPlace p run (placeAt s at)
+pub place-sound : (s : List ℕ) (at p : ℕ) (run : List ℕ) → 0 < p → GoodPlace s at p run → SoundPlace p run (placeAt s at)
 unfolding placeAt
 place-sound s at p run m g = record {
   primary-node = omega (arith, g .primary-node .number);
@@ -125,20 +117,36 @@ places-sound s job h g j p =
     subst (λ x. SoundPlace (nodes job) (task job j .run) x) (sym (place-at s (tasks job) j (h .tasks-most) p))
     (place-sound s (8 + 16 * j) (nodes job) (task job j .run) (omega (arith, h .nodes-least)) (g .place j p))
 
+-- a sound plan has sound places, and the other way round
+module _ (job : Job) (plan : Plan) where
+  pub place-of : PlanSound job plan → (j : ℕ) → j < tasks job → SoundPlace (nodes job) (task job j .run) (place plan j)
+  place-of g j p = record {
+    primary-node = g .primary-node j p;
+    primary-able = g .primary-able j p;
+    primary-start = g .primary-start j p;
+    backup-node = g .backup-node j p;
+    backup-able = g .backup-able j p;
+    backup-start = g .backup-start j p;
+  }
+
+  pub of-places : plan .version ≡ planVersion → plan .«task_count» ≡ tasks job
+      → ((j : ℕ) → j < tasks job → SoundPlace (nodes job) (task job j .run) (place plan j)) → PlanSound job plan
+  of-places v c g = record {
+    version = v;
+    count = c;
+    primary-node = λ j p. g j p .primary-node;
+    primary-able = λ j p. g j p .primary-able;
+    primary-start = λ j p. g j p .primary-start;
+    backup-node = λ j p. g j p .backup-node;
+    backup-able = λ j p. g j p .backup-able;
+    backup-start = λ j p. g j p .backup-start;
+  }
+
 pub plan-sound : (s : List ℕ) (job : Job) → Sound job → planFault s job ≡ none → PlanSound job (planAt s (tasks job))
 unfolding planAt
 plan-sound s job h e =
     let g = plan-good s job e in
-    record {
-      version = omega (arith, g .version);
-      count = omega (arith, g .count);
-      primary-node = λ j p. places-sound s job h g j p .primary-node;
-      primary-able = λ j p. places-sound s job h g j p .primary-able;
-      primary-start = λ j p. places-sound s job h g j p .primary-start;
-      backup-node = λ j p. places-sound s job h g j p .backup-node;
-      backup-able = λ j p. places-sound s job h g j p .backup-able;
-      backup-start = λ j p. places-sound s job h g j p .backup-start;
-    }
+    of-places job _ (omega (arith, g .version)) (omega (arith, g .count)) (places-sound s job h g)
 
 -- the same of what the functions give
 pub job-done : (s : List ℕ) → readJob s .answer ≡ Done → JobDone s

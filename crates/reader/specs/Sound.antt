@@ -2,9 +2,12 @@
 use Prim.Native.Nat.{ℕ, suc, _≤_, _<_}
 use mathlib.Core.Path.{_≡_}
 use mathlib.Core.Bool.{Bool, true}
+use mathlib.Core.List.{List}
 use lib.Dec.{ltb, eqb}
+use lib.ListN.{getD}
 use Rattle.reader.specs.declared.job.Link.{Link}
 use Rattle.reader.specs.declared.job.Job.{Job}
+use Rattle.reader.specs.declared.plan.Place.{Place}
 use Rattle.reader.specs.declared.plan.Plan.{Plan}
 use Rattle.reader.specs.Tests.{_and_, _or_}
 use Rattle.reader.specs.Limits.{firstVersion, newestVersion, readySince, planVersion, minNodes, maxNodes, maxDetect, minTasks, maxTasks, minDeadline}
@@ -33,6 +36,15 @@ pub record Sound (job : Job) : Type 0 where
   pub into : (k : ℕ) → k < links job → link job k .to < tasks job
   pub delay-most : (k : ℕ) → k < links job → link job k .delay ≤ maxTime
   pub order : (k : ℕ) → suc k < links job → below (link job k) (link job (suc k)) ≡ true
+
+-- of one place, on p nodes, of a task of these run times
+pub record SoundPlace (p : ℕ) (run : List ℕ) (x : Place) : Type 0 where
+  pub primary-node : x .«primary_node» < p
+  pub primary-able : 0 < getD run (x .«primary_node») 0
+  pub primary-start : x .«primary_start» ≤ maxStart
+  pub backup-node : x .«backup_node» < p
+  pub backup-able : 0 < getD run (x .«backup_node») 0
+  pub backup-start : x .«backup_start» ≤ maxStart
 
 pub record PlanSound (job : Job) (plan : Plan) : Type 0 where
   pub version : plan .version ≡ planVersion

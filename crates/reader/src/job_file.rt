@@ -202,7 +202,7 @@ fn no_task(answer: Answer) -> OneTask
 }
 
 // One task at offset `at`: its ready time where the version has it, its deadline, then its run times.
-fn read_task(part: &[u8], base: usize, version: usize, at: usize, nodes: usize) -> OneTask
+pub fn read_task(part: &[u8], base: usize, version: usize, at: usize, nodes: usize) -> OneTask
     requires { ⌜ (base ≤ at) × (at ≤ 8192) × (nodes ≤ maxNodes) ⌝ }
     ensures { λ r. ⌜ r .end ≤ at + 96 ⌝ }
     ensures { λ r. ⌜ ((file : List ℕ) → drop base file ≡ now (part .entry) → Reads (taskFault version file at nodes) (r .answer)
@@ -296,7 +296,7 @@ fn read_tasks(part: &[u8], base: usize, version: usize, nodes: usize) -> Tasks
 }
 
 // Whether link l stands below link m: by from, then to.
-fn below(l: Link, m: Link) -> bool
+pub fn below(l: Link, m: Link) -> bool
     ensures { λ r. ⌜ r ≡ belowOf l m ⌝ }
 {
     if l.from < m.from {
@@ -308,7 +308,7 @@ fn below(l: Link, m: Link) -> bool
     false
 }
 
-fn no_link(answer: Answer) -> OneLink
+pub fn no_link(answer: Answer) -> OneLink
     ensures { λ r. ⌜ r .answer ≡ answer ⌝ }
 {
     let link = Link {
@@ -347,7 +347,7 @@ fn read_link(file: &[u8], at: usize, tasks: usize, before: Link) -> OneLink
     no_link(Answer::Refused(Refusal::LinkOrder(at)))
 }
 
-fn no_links(answer: Answer) -> Links
+pub fn no_links(answer: Answer) -> Links
     ensures { λ r. ⌜ (r .answer ≡ answer) × (r .count ≡ 0) × (r .list ≡ replicate maxLinks noLink) ⌝ }
 {
     let none = Link {

@@ -23,6 +23,8 @@ pub enum Refusal {
     ShortBuffer(usize),
     NoSuchNode(u32),
     TooSoon(usize),
+    Full(usize),
+    Stale(usize),
 }
 
 // The answer of a step: done, or the first refusal.
@@ -84,6 +86,8 @@ impl Refusal {
             Refusal::ShortBuffer(n) => Told::of(17, n, 0),
             Refusal::NoSuchNode(q) => Told::of(18, q as usize, 0),
             Refusal::TooSoon(j) => Told::of(19, j, j),
+            Refusal::Full(j) => Told::of(20, j, 0),
+            Refusal::Stale(j) => Told::of(21, j, j),
         }
     }
 }

@@ -20,3 +20,13 @@ pub mod WrongTurns
 pub mod Waits
 pub mod Instance
 pub mod PairOrder
+pub mod NodeLaws
+pub mod LinkSets
+pub mod ExtendLaws
+pub mod MergeLaws
+pub mod RoomLaws
+pub mod LongerLaws
+pub mod OneMore
+pub mod AskLaws
+pub mod HeldPasses
+pub mod AskSamples

@@ -5,6 +5,10 @@ pub mod Judge
 pub mod Replay
 pub mod Attempts
 pub mod Planner
+pub mod Description
+pub mod Longer
+pub mod Asking
+pub mod Held
 pub mod Survival
 pub mod Paths
 pub mod Breach
@@ -13,3 +17,4 @@ pub mod Firm
 pub mod Samples
 pub mod WrongTurns
 pub mod Waits
+pub mod AskSamples

@@ -14,7 +14,7 @@ use Rattle.seqopchi.specs.Files.{filesFault, judgeFiles, planFileFault, 
 use Rattle.seqopchi.specs.Samples.{calls, dues}
 
 -- all that the calls compute with
-unfoldable calculated : Unit {0}
+unfoldable pub calculated : Unit {0}
 unfolding filed computed packed outcome replayBytes filesFault judgeFiles planFileFault planFile lossFault replayFault replayFiles
 calculated = tt
 

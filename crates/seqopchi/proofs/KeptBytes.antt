@@ -21,7 +21,7 @@ use Rattle.seqopchi.specs.Files.{planIn, planOr, planFileFault, planFile
 use Rattle.seqopchi.proofs.PlannedFiles.{planned-length}
 
 -- of anything that is written
-refused-kept : (fault : Option Refusal) (s out : List ℕ) → (result (writes fault s out .answer) ≡ 0 → ⊥) → writes fault s out .buffer ≡ out
+pub refused-kept : (fault : Option Refusal) (s out : List ℕ) → (result (writes fault s out .answer) ≡ 0 → ⊥) → writes fault s out .buffer ≡ out
 refused-kept none s out h = absurd (h refl)
 refused-kept (some r) s out h = refl
 

@@ -1,9 +1,9 @@
 -- Laws of the planner's call: each step behind those that passed.
 use Prim.Native.Nat.{ℕ, _≤_, _<_, min}
 use mathlib.Core.Path.{_≡_, refl, sym, ap, _∙_}
-use mathlib.Core.List.{List}
+use mathlib.Core.List.{List, _++_}
 use mathlib.Core.Option.{none}
-use lib.ListN.{length}
+use lib.ListN.{length, drop}
 use native.Mathlib.Omega.{arith}
 use borrow.Author.Tests.{lt-leb, le-leb}
 use Rattle.reader.specs.declared.job_file.JobRead.{JobRead}
@@ -27,6 +27,10 @@ use Rattle.planner.specs.Tasks.{planned}
 use Rattle.planner.proofs.PlannedLaws.{attempt-refused, attempt-placed}
 use Rattle.seqopchi.specs.Files.{refusalOf, planOr, planFileFault, planFile}
 use Rattle.seqopchi.proofs.ReadLaws.{refuses, bad-job, good, job-is, job-sound}
+
+-- numbers at a buffer's front, and behind them what stood there
+pub put-front : {out vs b : List ℕ} {n : ℕ} → Puts out 0 vs b n → pack vs ++ drop (length (pack vs)) out ≡ b
+put-front {out} {vs} {b} {n} puts = sym (puts .buffer ∙ splice-front out (pack vs) (length (pack vs)) refl)
 
 module _ (file out : List ℕ) (read : JobRead) (is : read ≡ readJob file) where
   pub job-refused : {r : Refusal} → read .answer ≡ Refused r → planFile file out ≡ record { answer = read .answer; buffer = out }
@@ -66,6 +70,4 @@ module _ (file out : List ℕ) (read : JobRead) (is : read ≡ readJob file) whe
         plan-written b n puts =
             let none-found : planFileFault file out ≡ none = to-planner ∙ ap refusalOf found in
             let plan-is : planOr (planner (jobAt file)) ≡ p .plan = ap (λ j. planOr (planner j)) (sym same) ∙ ap planOr found in
-            rw (none-found, plan-is)
-            (ap (λ x. record { answer = Done; buffer = x })
-            (sym (puts .buffer ∙ splice-front out (pack (planNumbers (p .plan))) (length (pack (planNumbers (p .plan)))) refl)))
+            rw (none-found, plan-is) (ap (λ x. record { answer = Done; buffer = x }) (put-front puts))

@@ -38,7 +38,7 @@ module _ (job : Job) (sound : Sound job) (plan : Plan) (h : planner job ≡ plac
   plan-sound = planned-sound job sound plan h
 
   -- the planner's plan reads back from its own bytes
-  read-back : planAt (planBytes plan) (tasks job) ≡ plan
+  pub read-back : planAt (planBytes plan) (tasks job) ≡ plan
   unfolding readPlan
   read-back =
       let places = planned-places job sound plan h in
@@ -67,7 +67,7 @@ module _ (file out : List ℕ) (done : planFile file out .answer ≡ Done) where
   sound : Sound job
   sound = job-sound file job-fine
 
-  found : planner job ≡ placed plan
+  pub found : planner job ≡ placed plan
   unfolding planFileFault
   found = placed-plan (planner job) (or-else-r _ _ (or-else-r _ _ no-fault))
 
@@ -79,7 +79,7 @@ module _ (file out : List ℕ) (done : planFile file out .answer ≡ Done) where
   unfolding planFile
   planned-buffer = rw no-fault
 
-  written : take (planLength (tasks job)) (planFile file out .buffer) ≡ planBytes plan
+  pub written : take (planLength (tasks job)) (planFile file out .buffer) ≡ planBytes plan
   written = ap (take (planLength (tasks job))) planned-buffer ∙ take-at (planBytes plan) _ (planLength (tasks job)) planned-length
 
   pub planned-file-passes : judgeFiles file (take (planLength (tasks job)) (planFile file out .buffer)) ≡ none

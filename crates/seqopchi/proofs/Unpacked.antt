@@ -1,4 +1,4 @@
--- Number and both places of every refusal of the four calls can be taken back out of the 8-byte result.
+-- Number and both places of every refusal of judge, planner and replay can be taken back out of the 8-byte result.
 use Prim.Native.Nat.{ℕ, _<_}
 use native.Mathlib.Omega.{arith}
 use mathlib.Core.Path.{_≡_, subst}
@@ -30,18 +30,18 @@ use Rattle.seqopchi.specs.Files.{filesFault, judgeFiles, refusalOf, plan
 use Rattle.seqopchi.specs.Unpacks.{Unpacks, WordLoss}
 use Rattle.seqopchi.proofs.ReadLaws.{files-sound}
 
-unpacks : (o : Option Refusal) → FaultFits o → (r : Refusal) → o ≡ some r → Unpacks (tell r) (result (answered o))
+pub unpacks : (o : Option Refusal) → FaultFits o → (r : Refusal) → o ≡ some r → Unpacks (tell r) (result (answered o))
 unpacks o f r e =
     let g = f r e in
     rw e (record { number = packed-number (tell r) g; first = packed-first (tell r) g; second = packed-second (tell r) g })
 
-refused-with : {A : Type 0} (a : Attempt A) (r : Refusal) → refusalOf a ≡ some r → a ≡ refused r
+pub refused-with : {A : Type 0} (a : Attempt A) (r : Refusal) → refusalOf a ≡ some r → a ≡ refused r
 refused-with (refused s) r e = cc
 refused-with (placed x) r e = never (cc)
 
 module _ (job : Job) (sound : Sound job) where
   -- refusals that name tasks of the job
-  named : (r : Refusal) → tell r .first < tasks job → tell r .second < tasks job → Fits (tell r)
+  pub named : (r : Refusal) → tell r .first < tasks job → tell r .second < tasks job → Fits (tell r)
   named r a b =
       let most = sound .tasks-most in
       record { number = omega (arith, tell-number r .most); first = omega (arith, most); second = omega (arith, most) }

@@ -10,6 +10,7 @@ pub mod WordLaws
 pub mod SoundReads
 pub mod SameFields
 pub mod SoundWrites
+pub mod FilledJob
 pub mod LongestJob
 pub mod WriteFits
 pub mod Samples

@@ -60,7 +60,7 @@ stands-pack s [] a b h = let l : length s ≤ a = omega arith in sym (drop-of-le
 stands-pack s (v ∷ vs) a b h =
     rw (h .0, stands-pack s vs (a + 4) b (h .1)) (bytes-at s a b (stands-le s vs (a + 4) (length s) (h .1)))
 
-stands-drop : (s vs : List ℕ) (k a b : ℕ) → Stands (drop k s) a vs b → Stands s (k + a) vs (k + b)
+pub stands-drop : (s vs : List ℕ) (k a b : ℕ) → Stands (drop k s) a vs b → Stands s (k + a) vs (k + b)
 unfolding Stands
 stands-drop s [] k a b h = rw h
 stands-drop s (v ∷ vs) k a b h = (h .0 ∙ number-drop s k a, rw add-assoc (stands-drop s vs k (a + 4) b (h .1)))

@@ -17,7 +17,7 @@ use Rattle.reader.specs.declared.plan.Place.{Place}
 use Rattle.reader.specs.declared.plan.Plan.{Plan}
 use Rattle.reader.specs.Limits.{firstVersion, newestVersion, maxTasks, maxTime}
 use Rattle.reader.specs.Entries.{noLink, nodes, tasks, links, node, task, link, place}
-use Rattle.reader.specs.Sound.{below, Sound, PlanSound}
+use Rattle.reader.specs.Sound.{below, Sound, SoundPlace, PlanSound}
 use Rattle.reader.specs.Number.{numberAt}
 use Rattle.reader.specs.JobFile.{jobVersion, nodeWidth, taskWidth, taskSection, linkSection, jobLength, nodeCount, linkAt, linkBefore, jobFault}
 use Rattle.reader.specs.Fields.{nodeFields, taskFields, nodeValues, taskValues, width, held}
@@ -27,7 +27,7 @@ use Rattle.reader.proofs.TestLaws.{split, or-l, or-r, and-i}
 use Rattle.reader.proofs.FieldLaws.{Good}
 use Rattle.reader.proofs.VersionLaws.{AllWithin, GoodFields, within-i}
 use Rattle.reader.proofs.Accepted.{GoodNodes, GoodTask, GoodTasks, GoodLink, GoodLinks, GoodJob, GoodPlace, GoodPlan}
-use Rattle.reader.proofs.Promise.{SoundTask, SoundLink, SoundPlace}
+use Rattle.reader.proofs.Promise.{SoundTask, SoundLink, place-of}
 use Rattle.writer.proofs.Segments.{Stands, stands-same, stands-split, stands-rows, stands-end, stands-at, pack-stands}
 use Rattle.writer.proofs.FileNumbers.{link-stands, place-stands, job-numbers}
 use Rattle.writer.proofs.HeldLaws.{held-good}
@@ -35,7 +35,7 @@ use Rattle.writer.proofs.SameNumbers.{link-same, place-same, node-width
 use Rattle.writer.proofs.WordLaws.{job-words, plan-words}
 use Rattle.reader.proofs.Faultless.{good-job, good-plan}
 
--- the entries of a sound job and of a sound plan
+-- the entries of a sound job
 pub node-of : (job : Job) → Sound job → (i : ℕ) → i < nodes job → AllWithin (job .version) nodeFields (nodeValues (node job i))
 unfolding AllWithin nodeFields
 node-of job h i p = (
@@ -55,16 +55,6 @@ task-of job h j p = record {
 
 link-of : (job : Job) → Sound job → (k : ℕ) → k < links job → SoundLink (tasks job) (link job k)
 link-of job h k p = record { rise = h .rise k p; into = h .into k p; delay = h .delay-most k p }
-
-place-of : (job : Job) (plan : Plan) → PlanSound job plan → (j : ℕ) → j < tasks job → SoundPlace (nodes job) (task job j .run) (place plan j)
-place-of job plan g j p = record {
-  primary-node = g .primary-node j p;
-  primary-able = g .primary-able j p;
-  primary-start = g .primary-start j p;
-  backup-node = g .backup-node j p;
-  backup-able = g .backup-able j p;
-  backup-start = g .backup-start j p;
-}
 
 -- before the first link stands 0 to 0
 first-above : (l : Link) → l .from < l .to → below noLink l ≡ true
@@ -108,7 +98,7 @@ module _ (s : List ℕ) where
       let q : SoundLink n (linkAt s at) = rw e g in
       record { to = omega (arith, q); delay = omega (arith, q); order = rw e o }
 
-  place-in : (at p : ℕ) (run : List ℕ) (x : Place) → Stands s at (placeNumbers x) (at + 16) → at + 16 ≤ length s
+  pub place-in : (at p : ℕ) (run : List ℕ) (x : Place) → Stands s at (placeNumbers x) (at + 16) → at + 16 ≤ length s
       → SoundPlace p run x → GoodPlace s at p run
   unfolding placeAt
   place-in at p run x h m g =

@@ -3,11 +3,14 @@ use Prim.Native.Nat.{ℕ, zero, suc, _^_, _≤_, _<_}
 use native.Mathlib.Omega.{arith}
 use mathlib.Core.List.{List, [], _∷_, _++_}
 use Rattle.reader.specs.declared.job.Job.{Job}
+use Rattle.reader.specs.declared.plan.Place.{Place}
 use Rattle.reader.specs.declared.plan.Plan.{Plan}
-use Rattle.reader.specs.Entries.{nodes, tasks, links, node, task, link, place}
-use Rattle.reader.specs.Sound.{Sound, PlanSound}
+use Rattle.reader.specs.Limits.{maxNodes}
+use Rattle.reader.specs.Entries.{nodes, tasks, links, node, task, link}
+use Rattle.reader.specs.Sound.{Sound, SoundPlace, PlanSound}
 use Rattle.writer.specs.Write.{flat, nodeNumbers, taskNumbers, linkNumbers, placeNumbers, numbersOf, jobNumbers, planNumbers}
 use Rattle.reader.specs.Number.{Words}
+use Rattle.reader.proofs.Promise.{place-of}
 use Rattle.writer.proofs.HeldLaws.{held-words}
 
 words-none : Words []
@@ -32,6 +35,12 @@ words-flat (suc n) f h = words-append (flat n f) (f n) (words-flat n f (λ i p. 
 
 words-one : (v : ℕ) → v < 2 ^ 32 → Words (v ∷ [])
 words-one v h = words-more v [] h words-none
+
+pub place-words : (p : ℕ) (run : List ℕ) (x : Place) → p ≤ maxNodes → SoundPlace p run x → Words (placeNumbers x)
+unfolding placeNumbers
+place-words p run x m g =
+    words-more _ _ (omega (arith, g .primary-node)) (words-more _ _ (omega (arith, g .primary-start))
+    (words-more _ _ (omega (arith, g .backup-node)) (words-one _ (omega (arith, g .backup-start)))))
 
 module _ (job : Job) (h : Sound job) where
   node-words : (v i : ℕ) → i < nodes job → Words (nodeNumbers v (node job i))
@@ -60,15 +69,9 @@ module _ (job : Job) (h : Sound job) where
       (words-append _ _ (words-flat _ _ (λ j p. task-words _ _ j (omega arith) (omega arith)))
       (words-more _ _ (omega (arith, h .links-most)) (words-flat _ _ (λ k p. link-words k (omega arith))))))))
 
-  place-words : (plan : Plan) → PlanSound job plan → (j : ℕ) → j < tasks job → Words (placeNumbers (place plan j))
-  unfolding placeNumbers
-  place-words plan g j p =
-      words-more _ _ (omega (arith, g .primary-node j p, h .nodes-most)) (words-more _ _ (omega (arith, g .primary-start j p))
-      (words-more _ _ (omega (arith, g .backup-node j p, h .nodes-most)) (words-one _ (omega (arith, g .backup-start j p)))))
-
   pub plan-words : (plan : Plan) → PlanSound job plan → Words (planNumbers plan)
   unfolding planNumbers
   plan-words plan g =
       let m = h .tasks-most in
       words-more _ _ (omega (arith, g .version)) (words-more _ _ (omega (arith, g .count))
-      (words-flat _ _ (λ j p. place-words plan g j (omega (arith, g .count)))))
+      (words-flat _ _ (λ j p. place-words _ _ _ (h .nodes-most) (place-of job plan g j (omega (arith, g .count))))))

@@ -164,7 +164,7 @@ fn put_links(d: &mut [u8], from: usize, count: usize, links: [Link; Job::MAX_LIN
 }
 
 // A job's numbers, from the buffer's front.
-fn put_job(d: &mut [u8], job: Job) -> usize
+pub fn put_job(d: &mut [u8], job: Job) -> usize
     requires { ⌜ maxJobLength ≤ length (now d) ⌝ }
     ensures { λ r. ⌜ (r ≤ maxJobLength) × Puts (now (d .entry)) 0 (jobNumbers job) (now (d .exit)) r ⌝ }
 {
@@ -222,7 +222,7 @@ pub fn put_plan(d: &mut [u8], plan: Plan) -> usize
 }
 
 // A writer's last step: refused for want of room, else the file stands at the buffer's front.
-fn send(file: &[u8], out: &mut [u8]) -> Answer
+pub fn send(file: &[u8], out: &mut [u8]) -> Answer
     ensures { λ r.
         ⌜ writes (roomFault (now (out .entry)) (length (now (file .entry)))) (now (file .entry)) (now (out .entry))
         ≡ record { answer = r; buffer = now (out .exit) } ⌝ }

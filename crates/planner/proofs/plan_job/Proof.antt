@@ -7,7 +7,9 @@ use Rattle.copies.specs.Table.{table}
 use Rattle.copies.proofs.ListMore.{replicated}
 use Rattle.planner.specs.Tasks.{Planning}
 use Rattle.planner.proofs.SenderLaws.{sendable, sent-start}
-use Rattle.planner.proofs.TaskLaws.{into-few, asked, bookable, chainable, plan-start, plan-more, plan-stop, plan-done}
+use Rattle.planner.proofs.SentLaws.{into-few}
+use Rattle.planner.proofs.WantLaws.{asked}
+use Rattle.planner.proofs.TaskLaws.{bookable, chainable, plan-start, plan-more, plan-stop, plan-done}
 use borrow.Author.Needs.{needs}
 use Rattle.planner.proofs.plan_job.Statement.{statement}
 use Rattle.planner.proofs.plan_job.Tie as tie
@@ -31,14 +33,15 @@ loop-holds c =
 
 cast-of : tie.Need-cast-of Inv-loop μ-loop
 cast-of c =
-    let at-loop = c .before .before .before in
-    omega (arith, into-few _ _ _ _ _ _ (at-loop .loop .inv) (c .before .before .loop-test .taken))
+    let so-far = c .before .before .before .loop .inv in
+    omega (arith, into-few _ _ _ _ _ (so-far .sent) _ (so-far .sound) (c .before .before .loop-test .taken))
 
 place-task-requires : tie.Need-place-task-requires Inv-loop μ-loop
 place-task-requires c κs =
     let at-of = c .before .before .before .before .before .before .before .before .before in
     let at-loop-test = at-of .before .before .before in
-    asked _ _ _ _ _ _ (at-loop-test .before .loop .inv) (at-loop-test .loop-test .taken) _ (at-of .of .ensures)
+    let so-far = at-loop-test .before .loop .inv in
+    asked _ _ _ _ _ _ _ _ _ (so-far .sound) (so-far .sent) (so-far .beside) (at-loop-test .loop-test .taken) _ (at-of .of .ensures)
 
 returns : tie.Need-returns Inv-loop μ-loop
 returns c =

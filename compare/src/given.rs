@@ -1,0 +1,67 @@
+//! A job, and the calls made on it.
+
+use crate::console::{plan_bytes, replay_bytes};
+use crate::files::{write_job, Job};
+use crate::random::Random;
+use crate::replay::Loss;
+use crate::trial::{Call, Function};
+
+/// A job's value and bytes.
+pub struct Given {
+    pub job: Job,
+    pub bytes: Vec<u8>,
+}
+
+impl Given {
+    pub fn new(job: Job) -> Given {
+        Given { bytes: write_job(&job), job }
+    }
+
+    pub fn judge<'a>(&'a self, plan: &'a [u8]) -> Call<'a> {
+        Call { function: Function::Judge, job: &self.bytes, plan, room: 0 }
+    }
+
+    pub fn plan(&self, room: usize) -> Call<'_> {
+        Call { function: Function::Plan, job: &self.bytes, plan: &[], room }
+    }
+
+    pub fn replay<'a>(&'a self, plan: &'a [u8], loss: Option<Loss>, room: usize) -> Call<'a> {
+        Call { function: Function::Replay(loss), job: &self.bytes, plan, room }
+    }
+
+    pub fn ask<'a>(&'a self, plan: &'a [u8], task: &'a [u8]) -> Call<'a> {
+        Call { function: Function::Ask(task), job: &self.bytes, plan, room: 0 }
+    }
+
+    /// The rooms are for the job and for the plan.
+    pub fn commit<'a>(
+        &'a self,
+        plan: &'a [u8],
+        booking: &'a [u8],
+        rooms: (usize, usize),
+    ) -> Call<'a> {
+        Call { function: Function::Commit(booking, rooms.1), job: &self.bytes, plan, room: rooms.0 }
+    }
+
+    pub fn nodes(&self) -> usize {
+        self.job.detect.len()
+    }
+
+    pub fn plan_room(&self) -> usize {
+        plan_bytes(self.job.tasks.len())
+    }
+
+    pub fn replay_room(&self) -> usize {
+        replay_bytes(self.job.tasks.len())
+    }
+}
+
+/// A buffer length near the one needed, or far too small.
+pub fn some_room(random: &mut Random, needed: usize) -> usize {
+    let near = needed - 5 + random.below(14);
+    if random.percent(20) {
+        random.below(needed)
+    } else {
+        near
+    }
+}

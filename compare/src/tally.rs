@@ -1,0 +1,151 @@
+//! How often each outcome was met, so that a run that tries little is seen to do so.
+
+use std::fmt;
+
+use crate::refusal::{number_of, TOO_SOON, WORDS};
+use crate::trial::Function;
+
+/// The columns of results. The last two count again what was asked and committed on a pair that
+/// passes, where the fault, if any, is in the description or the booking.
+const COLUMNS: [&str; 8] =
+    ["judge", "plan", "replay", "replay_loss", "ask", "commit", "held: ask", "held: commit"];
+const HELD_ASK: usize = 6;
+const HELD_COMMIT: usize = 7;
+
+/// The refusals that ask and commit can give, and which of them on a pair that passes.
+const WANTED: [(usize, &[usize]); 4] = [
+    (4, &[1, 2, 3, 4, 5, 6, 7, 8, 9, 10, 11, 12, 13, 14, 15, 16, 19, 20]),
+    (5, &[1, 2, 3, 4, 5, 6, 7, 8, 9, 10, 11, 12, 13, 14, 17, 19, 20, 21]),
+    (HELD_ASK, &[1, 3, 4, 5, 6, 15, 16, 20]),
+    (HELD_COMMIT, &[1, 3, 4, 5, 6, 7, 17, 20, 21]),
+];
+
+#[derive(Default)]
+pub struct Tally {
+    /// By column and number of the result.
+    results: [[u64; WORDS.len()]; COLUMNS.len()],
+    // What else was met; `counts` says it in words.
+    pub passed: u64,
+    pub passed_deep: u64,
+    pub passed_large: u64,
+    pub every_tick: u64,
+    pub survived: u64,
+    pub passed_newly: u64,
+    pub planned_newly: u64,
+    pub passed_version_1: u64,
+    pub passed_with_ready: u64,
+    pub planned_later: u64,
+    pub held_back: u64,
+    pub backup_sooner: u64,
+    pub later_version: u64,
+    pub booked_at_once: u64,
+    pub booked_version_1: u64,
+    pub booked_with_ready: u64,
+    pub booked_newly: u64,
+    pub booked_sharing: u64,
+    pub booked_as_planned: u64,
+    pub unplaced_as_planned: u64,
+    pub booked_later: u64,
+    pub stale_later: u64,
+    pub moved_booked: u64,
+    pub moved_stale: u64,
+    pub full_of_tasks: u64,
+    pub full_of_links: u64,
+    pub sequences_survived: u64,
+}
+
+/// Something counted: how often it was met, in words, and how often a run of the default count has
+/// to meet it.
+pub struct Count {
+    pub met: u64,
+    pub words: &'static str,
+    pub least: u64,
+}
+
+impl Tally {
+    pub fn count(&mut self, function: Function, code: u64) {
+        let column = match function {
+            Function::Judge => 0,
+            Function::Plan => 1,
+            Function::Replay(None) => 2,
+            Function::Replay(Some(_)) => 3,
+            Function::Ask(_) => 4,
+            Function::Commit(..) => 5,
+        };
+        self.results[column][number_of(code)] += 1;
+    }
+
+    /// Counts a result of ask or commit once more, as one on a pair that passes.
+    pub fn count_held(&mut self, function: Function, code: u64) {
+        let is_ask = matches!(function, Function::Ask(_));
+        self.results[if is_ask { HELD_ASK } else { HELD_COMMIT }][number_of(code)] += 1;
+    }
+
+    pub fn met(&self, number: usize) -> u64 {
+        self.results.iter().map(|column| column[number]).sum()
+    }
+
+    /// What ask and commit should have given, in words.
+    pub fn not_given(&self) -> impl Iterator<Item = String> + '_ {
+        let all =
+            WANTED.iter().flat_map(|&(column, numbers)| numbers.iter().map(move |&n| (column, n)));
+        let missed = all.filter(|&(column, number)| self.results[column][number] == 0);
+        missed.map(|(column, number)| format!("{} never gave {number}", COLUMNS[column]))
+    }
+
+    /// What was met beside results, in the order in which it is printed.
+    pub fn counts(&self) -> impl Iterator<Item = Count> {
+        let counts = [
+            (self.passed, 10_000, "passed plans"),
+            (self.passed_deep, 1_000, "passed plans with a path of two weak links or more"),
+            (self.passed_large, 0, "passed plans of 32 tasks or more"),
+            (self.every_tick, 0, "passed plans with every node lost at every tick"),
+            (self.survived, 0, "runs of passed plans held to demand 3"),
+            // Request (i).
+            (self.passed_newly, 200, "passed plans that rule E of document 01 refused"),
+            (self.planned_newly, 100, "planned jobs whose plan rule E of document 01 would move"),
+            // Request (ii).
+            (self.passed_version_1, 2_000, "passed plans of version 1 jobs"),
+            (self.passed_with_ready, 2_000, "passed plans of jobs with ready times above 0"),
+            (self.planned_later, 300, "planned jobs whose plan the ready times moved"),
+            (self.results[0][usize::from(TOO_SOON)], 5_000, "plans refused as too soon"),
+            (self.held_back, 500, "replays without loss in which a primary was not ready"),
+            (self.backup_sooner, 250, "replays without loss with a backup run before ready"),
+            (self.later_version, 3_000, "calls with a job of a later version, refused 2 at 0"),
+        ];
+        let counts = counts.into_iter().chain(self.sequence_counts());
+        counts.map(|(met, least, words)| Count { met, words, least })
+    }
+
+    /// Request (iii).
+    fn sequence_counts(&self) -> [(u64, u64, &'static str); 14] {
+        [
+            (self.booked_at_once, 5_000, "asked places booked, with no commit between"),
+            (self.booked_version_1, 2_000, "asked places booked in jobs of version 1"),
+            (self.booked_with_ready, 1_000, "asked places booked for tasks with a ready time"),
+            (self.booked_newly, 30, "asked places booked that rule E of document 01 refused"),
+            (self.booked_sharing, 300, "asked places booked whose backup shares time"),
+            (self.booked_as_planned, 2_000, "longer plans that are the planner's own"),
+            (self.unplaced_as_planned, 2_000, "asks refused as the planner refuses the longer job"),
+            (self.booked_later, 400, "asked places booked after another commit"),
+            (self.stale_later, 500, "asked places stale after another commit"),
+            (self.moved_booked, 2_000, "asked places moved in time by hand and booked"),
+            (self.moved_stale, 2_000, "asked places changed by hand and stale"),
+            (self.full_of_tasks, 20, "jobs filled to 64 tasks"),
+            (self.full_of_links, 20, "jobs filled to 512 links"),
+            (self.sequences_survived, 100, "plans held to demand 3 at the end of a sequence"),
+        ]
+    }
+}
+
+impl fmt::Display for Tally {
+    fn fmt(&self, f: &mut fmt::Formatter) -> fmt::Result {
+        write!(f, "{:>2} {:<14}", "", "result")?;
+        COLUMNS.iter().try_for_each(|name| write!(f, "{name:>13}"))?;
+        for (number, word) in WORDS.iter().enumerate() {
+            write!(f, "\n{number:>2} {word:<14}")?;
+            self.results.iter().try_for_each(|column| write!(f, "{:>13}", column[number]))?;
+        }
+        self.counts().try_for_each(|count| write!(f, "\n{}: {}", count.words, count.met))
+    }
+}

@@ -1,0 +1,10 @@
+pub mod NewLinkLaws
+pub mod NewFileLaws
+pub mod NewAccepted
+pub mod DescriptionLaws
+pub mod DescriptionFits
+pub mod RiseLaws
+pub mod TurnLaws
+pub mod RoomLaws
+pub mod BesideLaws
+pub mod CallLaws

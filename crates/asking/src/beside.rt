@@ -1,0 +1,88 @@
+// Where a new task would go beside a plan.
+use crate::longer::merged_links;
+use copies::table::Copies;
+use judge::tasks::copy_of;
+use planner::faults::fault_set;
+use planner::senders::by_receiver;
+use planner::task::Pair;
+use planner::task::Placing;
+use planner::task::Want;
+use planner::task::book;
+use planner::task::chain_up;
+use planner::task::place_task;
+use reader::job::Job;
+use reader::job::Task;
+use reader::plan::Place;
+use reader::plan::Plan;
+use rules::Description;
+ghost use mathlib.Core.Path.{_≡_};
+ghost use Rattle.copies.specs.Table.{table};
+ghost use Rattle.planner.specs.Tasks.{attempted};
+ghost use Rattle.asking.specs.Calls.{Asking};
+ghost use Rattle.asking.specs.Beside.{Takeable, Taken, placeNew};
+
+// Both copies of a task at its place, with its fault set. The chain of the links to it begins at `into`.
+fn pair_at<'l, 'c>(
+    next: &'l [u32; Job::MAX_LINKS],
+    from: &'l [u32; Job::MAX_LINKS],
+    delay: &'l [u32; Job::MAX_LINKS],
+    node: &'c [u32; Copies::COUNT],
+    start: &'c [u32; Copies::COUNT],
+    finish: &'c [u32; Copies::COUNT],
+    sets: &'c [u32; Copies::COUNT],
+    into: usize,
+    task: Task,
+    place: Place,
+) -> Pair
+    requires { ⌜ Takeable (now next) (now from) (now delay) (table (now node) (now start) (now finish) (now sets)) into task place ⌝ }
+    ensures { λ r. ⌜ Taken (now (next .entry)) (now (from .entry)) (now (delay .entry))
+        (table (now (node .entry)) (now (start .entry)) (now (finish .entry)) (now (sets .entry))) into task place r ⌝ }
+{
+    let primary = copy_of(task, place.primary_node, place.primary_start);
+    let backup = copy_of(task, place.backup_node, place.backup_start);
+    let set = fault_set(next, from, delay, node, start, finish, sets, into, primary);
+    Pair {
+        primary,
+        backup,
+        set,
+    }
+}
+
+// The planner's own step for a new task beside the plan, with its primary anywhere. Of the longer job it makes the links alone.
+// The nodes, starts and finishes of the copies are `on`, `go` and `end`: each call stands on one line so.
+pub fn place_new(job: Job, plan: Plan, d: Description) -> Placing
+    requires { ⌜ Asking job plan d ⌝ }
+    ensures { λ r. ⌜ attempted r ≡ placeNew job plan d ⌝ }
+{
+    let mut into = [0u32; Job::MAX_TASKS];
+    let mut next = [0u32; Job::MAX_LINKS];
+    let mut from = [0u32; Job::MAX_LINKS];
+    let mut lag = [0u32; Job::MAX_LINKS];
+    let old = job.link_count as usize;
+    let new = d.link_count as usize;
+    let held = job.links;
+    let more = d.links;
+    let links = merged_links(held, old, more, new);
+    let m = old + new;
+    by_receiver(links, m, &mut into, &mut next, &mut from, &mut lag);
+    let mut on = [0u32; Copies::COUNT];
+    let mut go = [0u32; Copies::COUNT];
+    let mut end = [0u32; Copies::COUNT];
+    let mut set = [0u32; Copies::COUNT];
+    let mut prev = [0usize; Copies::COUNT];
+    let mut last = [0usize; Job::MAX_NODES];
+    let n = job.task_count as usize;
+    let mut j: usize = 0;
+    while j < n {
+        let at = into[j] as usize;
+        let task = job.tasks[j];
+        let place = plan.places[j];
+        let pair = pair_at(&next, &from, &lag, &on, &go, &end, &set, at, task, place);
+        book(&mut on, &mut go, &mut end, &mut set, j, pair);
+        chain_up(&mut prev, &mut last, j, pair);
+        j += 1;
+    }
+    let count = job.node_count as usize;
+    let want = Want::of(n, d.task, job.nodes, count, into[n] as usize);
+    place_task(&next, &from, &lag, &on, &go, &end, &set, &prev, &last, want)
+}

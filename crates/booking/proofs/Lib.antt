@@ -1,0 +1,10 @@
+pub mod BookingLaws
+pub mod AskedFiles
+pub mod LongerFiles
+pub mod WrittenFiles
+pub mod HeldFiles
+pub mod AskUnpacked
+pub mod AskCalls
+pub mod CommitCalls
+pub mod AskFileSamples
+pub mod KeptBytes

@@ -1,0 +1,142 @@
+-- Both copies of a task stored: its row joins the rows before it, and the next task can be placed beside them.
+use Prim.Native.Nat.{ℕ, _+_, _*_, _≤_, _<_}
+use mathlib.Core.Bool.{true}
+use mathlib.Core.List.{List}
+use mathlib.Core.Path.{_≡_, refl, sym, _∙_, ap, ap₂, subst, fun-ext}
+use lib.Dec.{eqb}
+use lib.ListN.{getD, length, replicate}
+use borrow.Author.Tests.{eqb-true, eqb-false}
+use native.Mathlib.Decide.{decLt}
+use native.Mathlib.Omega.{arith}
+use Rattle.reader.specs.declared.job.Job.{Job}
+use Rattle.reader.specs.Limits.{maxNodes, maxStart, maxTime}
+use Rattle.reader.specs.Entries.{nodes, tasks, link}
+use Rattle.reader.specs.Sound.{Sound}
+use Rattle.reader.proofs.TestLaws.{split, below-suc}
+use Rattle.rules.specs.declared.Copy.{Copy}
+use Rattle.rules.specs.Tables.{put}
+use Rattle.rules.specs.Copies.{domain}
+use Rattle.rules.specs.Rules.{faultSet}
+use Rattle.rules.proofs.TableLaws.{put-same, put-other}
+use Rattle.rules.proofs.FaultSetLaws.{faults-e}
+use Rattle.copies.specs.declared.table.Copies.{Copies}
+use Rattle.copies.specs.Sets.{has, everyNode}
+use Rattle.copies.specs.Table.{copyCount, entry, setAt, rowOf, emptyCopies, Held}
+use Rattle.copies.proofs.ListMore.{replicated}
+use Rattle.copies.proofs.ChainLaws.{chained-start, chained-same}
+use Rattle.copies.proofs.TableLaws.{same-row}
+use Rattle.planner.specs.declared.task.Pair.{Pair}
+use Rattle.planner.specs.Tasks.{Beside, pairRow, Bookable, Booked, Chainable, ChainedUp}
+use Rattle.planner.proofs.KeepsLaws.{Found, faults-own}
+
+-- no task is stored yet
+pub beside-start : (job : Job) (before last : List ℕ) → before ≡ replicate copyCount 0 → last ≡ replicate maxNodes 0
+    → Beside job 0 emptyCopies before last
+beside-start job before last b l =
+    record {
+      few = omega arith;
+      held = record {
+        node = λ k p. absurd (let z : ⊥ = omega arith in z);
+        lasts = λ k p. absurd (let z : ⊥ = omega arith in z);
+        ends = λ k p. absurd (let z : ⊥ = omega arith in z);
+        primary-set = λ k p. absurd (let z : ⊥ = omega arith in z);
+        own = λ k p. absurd (let z : ⊥ = omega arith in z);
+        within = λ k q p. absurd (let z : ⊥ = omega arith in z);
+      };
+      whole = record { node = refl; start = refl; finish = refl; set = refl };
+      soon = λ k. omega (arith, replicated {A = ℕ} 0 copyCount k);
+      laid = chained-start _ _ _ last before (ap length l) (ap length b) (λ n. ap (λ x. getD x n 0) l ∙ replicated 0 maxNodes n);
+    }
+
+-- r is the table with copies x of task j
+module _ (j : ℕ) (x : Pair) (cs r : Copies) (b : Booked j x cs r) where
+  the-row : rowOf r j ≡ pairRow x
+  unfolding rowOf
+  the-row = same-row _ _ _ _ _ _ (b .primary) (b .backup) (ap has (b .backup-set))
+
+  other-row : (i : ℕ) → (i ≡ j → ⊥) → rowOf r i ≡ rowOf cs i
+  unfolding rowOf
+  other-row i h =
+      same-row _ _ _ _ _ _
+      (b .other (2 * i) (λ e. h (omega arith)) (λ e. omega arith))
+      (b .other (2 * i + 1) (λ e. omega arith) (λ e. h (omega arith)))
+      (ap has (b .other-set (2 * i + 1) (λ e. omega arith) (λ e. h (omega arith))))
+
+  pub booked-row : rowOf r ≡ put (rowOf cs) j (pairRow x)
+  booked-row = fun-ext λ i. split (eqb i j)
+      (λ e. subst (λ k. rowOf r k ≡ put (rowOf cs) j (pairRow x) k) (sym (eqb-true i j e)) (the-row ∙ sym (put-same (rowOf cs) j _)))
+      (λ e. other-row i (eqb-false i j e) ∙ sym (put-other (rowOf cs) j _ i (eqb-false i j e)))
+
+  -- what holds of the old entries and of the new holds of all
+  all-entries : (P : Copy → Type 0) → ((k : ℕ) → k < 2 * j → P (entry cs k)) → P (x .primary) → P (x .backup)
+      → (k : ℕ) → k < 2 * (j + 1) → P (entry r k)
+  all-entries P o u v k w =
+      elim (decLt k (2 * j)) [
+        | yes y ↦ subst P (sym (b .other k (omega arith) (omega arith))) (o k y)
+        | no y ↦ elim (decLt k (2 * j + 1)) [
+          | yes z ↦ let e : 2 * j ≡ k = omega arith in subst (λ i. P (entry r i)) e (subst P (sym (b .primary)) u)
+          | no z ↦ let e : 2 * j + 1 ≡ k = omega arith in subst (λ i. P (entry r i)) e (subst P (sym (b .backup)) v)
+        ]
+      ]
+
+-- task j, with copies x, beside those before it
+module _ (job : Job) (j : ℕ) (cs : Copies) (before last : List ℕ) (sound : Sound job) (beside : Beside job j cs before last) (task-of : j < tasks job)
+    (x : Pair) where
+  pub pair-bookable : Bookable cs j x
+  pair-bookable = (beside .whole, omega (arith, sound .tasks-most))
+
+  module _ (p-found : Found job (x .primary)) (q-found : Found job (x .backup)) where
+    pub pair-chainable : Chainable j x
+    pair-chainable =
+        record {
+          room = omega (arith, sound .tasks-most);
+          primary = omega (arith, p-found .node, sound .nodes-most);
+          backup = omega (arith, q-found .node, sound .nodes-most);
+        }
+
+    module _ (faults-are : faultSet job (rowOf cs) j (x .primary) ≡ has (x .set)) where
+      faults-within : (n : ℕ) → has (x .set) n ≡ true → n < nodes job
+      unfolding rowOf domain
+      faults-within n t =
+          faults-e job (rowOf cs) j (x .primary) n (ap (λ f. f n) faults-are ∙ t) (λ e. omega (arith, p-found .node))
+          (λ k b e w h. beside .held .within (link job k .from) n (omega (arith, sound .rise k b)) h)
+
+      module _ (r : Copies) (b : Booked j x cs r) where
+        next-held : Held job (j + 1) r
+        next-held =
+            let old = beside .held in
+            record {
+              node = all-entries j x cs r b (λ c. c .node < nodes job) (old .node) (p-found .node) (q-found .node);
+              lasts = all-entries j x cs r b (λ c. c .start < c .finish) (old .lasts) (p-found .lasts) (q-found .lasts);
+              ends = all-entries j x cs r b (λ c. c .finish ≤ maxStart + maxTime) (old .ends) (p-found .ends) (q-found .ends);
+              primary-set = λ i w. below-suc i j (omega arith)
+                  (λ y. b .other-set (2 * i) (omega arith) (omega arith) ∙ old .primary-set i y)
+                  (λ y. subst (λ t. setAt r (2 * t) ≡ everyNode) (sym y) (b .primary-set));
+              own = λ i w. below-suc i j (omega arith)
+                  (λ y. ap₂ (λ z c. has z (c .node)) (b .other-set (2 * i + 1) (omega arith) (omega arith)) (b .other (2 * i) (omega arith) (omega arith))
+                  ∙ old .own i y)
+                  (λ y. subst (λ t. has (setAt r (2 * t + 1)) (entry r (2 * t) .node) ≡ true) (sym y)
+                  (ap₂ (λ z c. has z (c .node)) (b .backup-set) (b .primary)
+                  ∙ faults-own job (rowOf cs) j (x .primary) (x .set) (sym faults-are)));
+              within = λ i n w. below-suc i j (omega arith)
+                  (λ y h. old .within i n y (sym (ap (λ z. has z n) (b .other-set (2 * i + 1) (omega arith) (omega arith))) ∙ h))
+                  (λ y h. faults-within n (sym (ap (λ z. has z n) (b .backup-set)) ∙ subst (λ t. has (setAt r (2 * t + 1)) n ≡ true) y h));
+            }
+
+        next-soon : (k : ℕ) → entry r k .finish ≤ maxStart + maxTime
+        next-soon k =
+            elim (decLt k (2 * (j + 1))) [
+              | yes y ↦ next-held .ends k y
+              | no y ↦ omega (arith, ap (λ c. c .finish) (b .other k (omega arith) (omega arith)), beside .soon k)
+            ]
+
+        pub booked-beside : (before' last' : List ℕ) → ChainedUp j x last before last' before' → Beside job (j + 1) r before' last'
+        booked-beside before' last' up =
+            record {
+              few = omega (arith, sound .tasks-most);
+              held = next-held;
+              whole = b .whole;
+              soon = next-soon;
+              laid = up _ (ap (λ c. c .node) (b .primary)) (ap (λ c. c .node) (b .backup))
+                  (chained-same _ _ _ _ _ _ _ (λ i w. sym (ap (λ c. c .node) (b .other i (omega arith) (omega arith)))) (beside .laid));
+            }

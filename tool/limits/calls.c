@@ -1,0 +1,197 @@
+/* Files made of a few numbers, the library's calls on them, and what is expected. */
+#include "limits.h"
+
+#include <stdio.h>
+#include <stdlib.h>
+#include <string.h>
+
+static const char *const call_names[CALLS] = {
+    "seqopchi_judge", "seqopchi_plan", "seqopchi_replay", "seqopchi_replay_loss",
+    "seqopchi_ask", "seqopchi_commit"
+};
+
+const char *const field_names[FIELDS] = {
+    "version", "nodes", "detect time", "tasks", "ready time", "deadline", "run time",
+    "links", "from", "to", "delay", "version of the plan", "rows", "primary's node",
+    "primary's start", "backup's node", "backup's start", "new ready time",
+    "new deadline", "new run time", "new links", "new from", "new delay",
+    "new primary's node", "new primary's start", "new backup's node",
+    "new backup's start"
+};
+
+const uint32_t usual[FIELDS] = {
+    [NODES] = 3, [DETECT] = 1, [TASKS] = 40, [DEADLINE] = 9999, [RUN] = 4,
+    [LINKS] = 2, [DELAY] = 2, [PLAN_VERSION] = SEQOPCHI_PLAN_VERSION, [BACKUP] = 1,
+    [NEW_DEADLINE] = 9999, [NEW_RUN] = 4, [NEW_LINKS] = 2, [NEW_DELAY] = 2,
+    [NEW_PRIMARY_START] = 5000, [NEW_BACKUP] = 1, [NEW_BACKUP_START] = 6000
+};
+
+uint32_t version;
+uint32_t numbers[FIELDS];
+struct file job, plan, task, booking;
+uint8_t out[ROOM], out_plan[ROOM];
+size_t plan_room = ROOM;
+uint32_t places[4];
+uint32_t lost_node, lost_moment;
+unsigned long calls;
+
+static char subject[120]; /* what is checked, for the message */
+
+void about(const char *name, const char *what, unsigned long number)
+{
+    snprintf(subject, sizeof subject, "%s, %s %lu, usual job version %lu", name, what,
+             number, (unsigned long)version);
+}
+
+void check(int fine, const char *fault)
+{
+    if (fine)
+        return;
+    fprintf(stderr, "limits: %s: %s\n", subject, fault);
+    exit(1);
+}
+
+void set_number(struct file *f, enum field field, uint32_t number)
+{
+    for (int i = 0; i < 4; i++)
+        f->data[f->at[field] + i] = (uint8_t)(number >> 8 * i);
+}
+
+void put(struct file *f, enum field field, uint32_t number)
+{
+    check(f->length + 4 < ROOM, "the file is too long for this program");
+    f->at[field] = f->length;
+    f->length += 4;
+    set_number(f, field, number);
+}
+
+/* Fewer links than asked for where there are fewer pairs of tasks. */
+static void write_links(void)
+{
+    uint32_t tasks = numbers[TASKS], pairs = tasks * (tasks - 1) / 2, left;
+
+    if (numbers[LINKS] > pairs)
+        numbers[LINKS] = pairs;
+    left = numbers[LINKS];
+    put(&job, LINKS, left);
+    for (uint32_t from = 0; from < tasks; from++)
+        for (uint32_t to = from + 1; to < tasks && left > 0; to++, left--) {
+            put(&job, FROM, from);
+            put(&job, TO, to);
+            put(&job, DELAY, numbers[DELAY]);
+        }
+}
+
+void write_job(void)
+{
+    job.length = 0;
+    put(&job, VERSION, numbers[VERSION]);
+    put(&job, NODES, numbers[NODES]);
+    for (uint32_t node = 0; node < numbers[NODES]; node++)
+        put(&job, DETECT, numbers[DETECT]);
+    put(&job, TASKS, numbers[TASKS]);
+    for (uint32_t t = 0; t < numbers[TASKS]; t++) {
+        if (numbers[VERSION] >= READY_VERSION)
+            put(&job, READY, numbers[READY]);
+        put(&job, DEADLINE, numbers[DEADLINE]);
+        for (uint32_t node = 0; node < numbers[NODES]; node++)
+            put(&job, RUN, numbers[RUN]);
+    }
+    write_links();
+}
+
+static void write_plan(void)
+{
+    plan.length = 0;
+    put(&plan, PLAN_VERSION, numbers[PLAN_VERSION]);
+    put(&plan, ROWS, numbers[TASKS]);
+    for (uint32_t t = 0; t < numbers[TASKS]; t++)
+        for (int field = PRIMARY; field <= BACKUP_START; field++)
+            put(&plan, field, numbers[field]);
+}
+
+/* Links from the tasks 0, 1 and so on, whether there are so many or not. */
+static void write_description(struct file *f)
+{
+    f->length = 0;
+    if (numbers[VERSION] >= READY_VERSION)
+        put(f, NEW_READY, numbers[NEW_READY]);
+    put(f, NEW_DEADLINE, numbers[NEW_DEADLINE]);
+    for (uint32_t node = 0; node < numbers[NODES]; node++)
+        put(f, NEW_RUN, numbers[NEW_RUN]);
+    put(f, NEW_LINKS, numbers[NEW_LINKS]);
+    for (uint32_t from = 0; from < numbers[NEW_LINKS]; from++) {
+        put(f, NEW_FROM, from);
+        put(f, NEW_DELAY, numbers[NEW_DELAY]);
+    }
+}
+
+void write_task(void)
+{
+    write_description(&task);
+    write_description(&booking);
+    for (int field = NEW_PRIMARY; field <= NEW_BACKUP_START; field++)
+        put(&booking, field, numbers[field]);
+}
+
+void write_files(enum field field, uint32_t number)
+{
+    memcpy(numbers, usual, sizeof numbers);
+    numbers[VERSION] = version;
+    numbers[field] = number;
+    write_job();
+    write_plan();
+    write_task();
+}
+
+uint64_t result_of(enum call call, size_t out_len)
+{
+    calls++;
+    memset(out, MARK, sizeof out);
+    memset(out_plan, MARK, sizeof out_plan);
+    memset(places, MARK, sizeof places);
+    switch (call) {
+    case JUDGE:
+        return seqopchi_judge(job.data, job.length, plan.data, plan.length);
+    case PLAN:
+        return seqopchi_plan(job.data, job.length, out, out_len);
+    case REPLAY:
+        return seqopchi_replay(job.data, job.length, plan.data, plan.length,
+                               out, out_len);
+    case LOSS:
+        return seqopchi_replay_loss(job.data, job.length, plan.data, plan.length,
+                                    lost_node, lost_moment, out, out_len);
+    case ASK:
+        return seqopchi_ask(job.data, job.length, plan.data, plan.length,
+                            task.data, task.length, places);
+    default:
+        return seqopchi_commit(job.data, job.length, plan.data, plan.length,
+                               booking.data, booking.length, out, out_len,
+                               out_plan, plan_room);
+    }
+}
+
+void check_result(int fine, enum call call, uint64_t r, const char *wanted)
+{
+    char fault[160];
+    unsigned number = seqopchi_number(r);
+
+    snprintf(fault, sizeof fault, "%s gives %u (%s) %lu / %lu, not %s",
+             call_names[call], number, seqopchi_word(number),
+             (unsigned long)seqopchi_first(r), (unsigned long)seqopchi_second(r),
+             wanted);
+    check(fine, fault);
+}
+
+void expect(enum call call, size_t out_len, unsigned number,
+            size_t first, size_t second)
+{
+    uint64_t r = result_of(call, out_len);
+    int same = seqopchi_number(r) == number && seqopchi_first(r) == first
+        && seqopchi_second(r) == second;
+    char wanted[80];
+
+    snprintf(wanted, sizeof wanted, "%u (%s) %lu / %lu", number, seqopchi_word(number),
+             (unsigned long)first, (unsigned long)second);
+    check_result(same, call, r, wanted);
+}

@@ -1,0 +1,65 @@
+/* Files made of a few numbers, the library's calls on them, and what is expected. */
+#ifndef LIMITS_H
+#define LIMITS_H
+
+#include "seqopchi.h"
+
+#define ROOM 65536 /* for any file or output here; no limit of the library */
+#define MARK 0xa5  /* what an output holds before a call, in each byte */
+#define COUNT_OF(array) (sizeof (array) / sizeof (array)[0])
+
+#define OLDEST_JOB_VERSION 1
+#define READY_VERSION 2 /* the first with ready times */
+
+enum call { JUDGE, PLAN, REPLAY, LOSS, ASK, COMMIT, CALLS };
+
+/* The numbers of a job, of a plan, of a description and of a booking's place. */
+enum field {
+    VERSION, NODES, DETECT, TASKS, READY, DEADLINE, RUN, LINKS, FROM, TO, DELAY,
+    PLAN_VERSION, ROWS, PRIMARY, PRIMARY_START, BACKUP, BACKUP_START,
+    NEW_READY, NEW_DEADLINE, NEW_RUN, NEW_LINKS, NEW_FROM, NEW_DELAY,
+    NEW_PRIMARY, NEW_PRIMARY_START, NEW_BACKUP, NEW_BACKUP_START, FIELDS
+};
+
+extern const char *const field_names[FIELDS];
+
+/* Well inside all limits, with tasks enough for the most links. The rows of the plan
+ * are alike and their backups early, so that a rule refuses a plan that reads well. */
+extern const uint32_t usual[FIELDS];
+
+struct file {
+    size_t length;
+    size_t at[FIELDS]; /* where the last number of each kind stands */
+    uint8_t data[ROOM];
+};
+
+extern uint32_t version;         /* the usual one of a job */
+extern uint32_t numbers[FIELDS]; /* what the files are made of */
+extern struct file job, plan, task, booking;
+extern uint8_t out[ROOM], out_plan[ROOM]; /* of a commit: longer job, longer plan */
+extern size_t plan_room;                  /* how much of out_plan a commit is given */
+extern uint32_t places[4];
+extern uint32_t lost_node, lost_moment;
+extern unsigned long calls;
+
+/* Ends the program with the subject and the fault, unless it is fine. */
+void about(const char *name, const char *what, unsigned long number);
+void check(int fine, const char *fault);
+
+void set_number(struct file *f, enum field field, uint32_t number);
+void put(struct file *f, enum field field, uint32_t number);
+void write_job(void);
+void write_task(void); /* and the booking */
+/* The usual files with one number changed. */
+void write_files(enum field field, uint32_t number);
+
+/* One call, with so many bytes of out. */
+uint64_t result_of(enum call call, size_t out_len);
+void check_result(int fine, enum call call, uint64_t r, const char *wanted);
+void expect(enum call call, size_t out_len, unsigned number,
+            size_t first, size_t second);
+
+/* Descriptions and bookings: limits, lengths, and what ask and commit write. */
+void check_asking(void);
+
+#endif
