@@ -70,7 +70,8 @@ module _ (job : Job) (plan : Plan) (d : Description) (x : Place) (ok : Committin
         let fine : breach (longerJob job d) (rows (longerJob job d) (longerPlan job plan x)) ≡ none = answered-done _ .0 (sym told ∙ q) in
         rw (fine, is, il)
 
-    pub commit-refused : {y : Refusal} → a ≡ Refused y → (c : Committed) → c ≡ bookless (Refused (Stale (tasks job))) → c ≡ committed (commit job plan d x)
+    pub commit-refused : {y : Refusal} → a ≡ Refused y → (c : Committed) → c ≡ bookless (Refused (Stale (tasks job)))
+        → c ≡ committed (commit job plan d x)
     unfolding judge commit unlessStale committed
     commit-refused {y} q c h =
         let bad : breach (longerJob job d) (rows (longerJob job d) (longerPlan job plan x)) ≡ some y = answered-refused _ y .0 (sym told ∙ q) in

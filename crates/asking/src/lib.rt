@@ -73,7 +73,8 @@ fn placed_as(pair: Pair) -> Asked
 
 // Whether one task more, with so many links, has room.
 pub fn full(tasks: u32, links: u32, new: u32) -> Answer
-    ensures { λ r. ⌜ ((job : Job) (d : Description) → tasksOf job ≡ tasks → linksOf job ≡ links → newLinks d ≡ new → r ≡ answered (fullFault job d)) ⌝ }
+    ensures { λ r. ⌜ ((job : Job) (d : Description) → tasksOf job ≡ tasks → linksOf job ≡ links → newLinks d ≡ new
+        → r ≡ answered (fullFault job d)) ⌝ }
 {
     let n = tasks as usize;
     if n >= Job::MAX_TASKS {

@@ -133,6 +133,12 @@ module _ (file plan task : List ℕ) where
   unfolding asked
   ask-stops e q h = h ∙ ap placeless q ∙ sym (ap asked (ask-is ∙ stops _ e))
 
+  -- 20 comes 'once the description .. and the tail are read': none of their faults hides behind it
+  pub ask-before-full : {r : Refusal} → judgeFiles file plan ≡ none → questionFault task (jobAt file) ≡ some r
+      → askFiles file plan task ≡ refused r
+  unfolding stepsFault
+  ask-before-full h e = ask-is ∙ stops _ (pass _ h ∙ stop _ e)
+
   module _ {job : Job} {places : Plan} {d : Description} (done : Ready questionFault file plan task job places d) where
     pub asking : Asking job places d
     asking = with-new done (question-sound task (jobAt file) (file-sound done) (done .reads))
@@ -148,10 +154,16 @@ module _ (file plan booking : List ℕ) where
   unfolding commitFiles
   commit-is = refl
 
-  pub commit-stops : {r : Refusal} {a : Answer} {b : Committed} → stepsFault bookingFault file plan booking ≡ some r → a ≡ Refused r → b ≡ bookless a
-      → b ≡ committed (commitFiles file plan booking)
+  pub commit-stops : {r : Refusal} {a : Answer} {b : Committed} → stepsFault bookingFault file plan booking ≡ some r → a ≡ Refused r
+      → b ≡ bookless a → b ≡ committed (commitFiles file plan booking)
   unfolding committed
   commit-stops e q h = h ∙ ap bookless q ∙ sym (ap committed (commit-is ∙ stops _ e))
+
+  -- and the four numbers are read before it too
+  pub commit-before-full : {r : Refusal} → judgeFiles file plan ≡ none → bookingFault booking (jobAt file) ≡ some r
+      → commitFiles file plan booking ≡ refused r
+  unfolding stepsFault
+  commit-before-full h e = commit-is ∙ stops _ (pass _ h ∙ stop _ e)
 
   module _ {job : Job} {places : Plan} {d : Description} {x : Place} (done : Ready bookingFault file plan booking job places d)
       (there : x ≡ bookedPlace booking job) where

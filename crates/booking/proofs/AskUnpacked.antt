@@ -105,8 +105,9 @@ module _ (job plan : List ℕ) where
         fits-or-else _ _ (room-fits outJob _ (omega (arith, job-most _ (sound-job-reads (b .job) (p .sound))))) (λ _.
         room-fits outPlan _ (omega (arith, plan-most _ (b .job) (p .sound) (sound-plan-reads (b .job) (b .plan) (p .sound) (p .planned)))))
 
-    answer-fits : (c : Attempt Booked) → FaultFits (refusalOf c) → ((b : Booked) → c ≡ placed b → Passed b) → (outJob outPlan : List ℕ) (r : Refusal)
-        → books c outJob outPlan .answer ≡ Refused r → Unpacks (tell r) (result (books c outJob outPlan .answer))
+    answer-fits : (c : Attempt Booked) → FaultFits (refusalOf c) → ((b : Booked) → c ≡ placed b → Passed b)
+        → (outJob outPlan : List ℕ) (r : Refusal) → books c outJob outPlan .answer ≡ Refused r
+        → Unpacks (tell r) (result (books c outJob outPlan .answer))
     unfolding books
     answer-fits (refused s) f p outJob outPlan r e =
         unpacks (some s) f r (let same : s ≡ r = cc in ap some same)

@@ -58,4 +58,5 @@ pub job-bytes-length : (job : Job) → Sound job → jobAt (jobBytes job) ≡ jo
     → jobLength (job .version) (nodes job) (tasks job) (links job) ≡ length (jobBytes job)
 unfolding jobAt
 job-bytes-length job sound again =
-    ap (λ b. jobLength (b .version) (nodes b) (tasks b) (links b)) (sym again) ∙ job-length (jobBytes job) (job-good (jobBytes job) (sound-job-reads job sound))
+    ap (λ b. jobLength (b .version) (nodes b) (tasks b) (links b)) (sym again)
+    ∙ job-length (jobBytes job) (job-good (jobBytes job) (sound-job-reads job sound))

@@ -186,19 +186,22 @@ module _ (job : Job) (plan : Plan) (d : Description) (new : NewSound job d) (roo
 
   -- (c) 'a plan that was the planner's own is then the planner's plan of the longer job': asking goes on where the planner stopped
   module _ (sound : Sound job) (own : planner job ≡ placed plan) where
+    -- the plan's places are those of these rows
+    abbrev PlacesOf : (ℕ → Row) → Type 0
+    PlacesOf u = (j : ℕ) → j < n → place plan j ≡ placeOf (u j)
+
     -- the planner's rows are the plan's
-    own-rows : {C : Type 0} → ((u : ℕ → Row) → placeTasks job anywhere n ≡ placed u → t ≡ u → ((j : ℕ) → j < n → place plan j ≡ placeOf (u j))
-        → plan .version ≡ 1 → C) → C
+    own-rows : {C : Type 0} → ((u : ℕ → Row) → placeTasks job anywhere n ≡ placed u → t ≡ u → PlacesOf u → plan .version ≡ 1 → C) → C
     unfolding planner plannerWith planOf
     own-rows go =
         bind-placed _ _ plan own λ u hu e.
         let is : planOf job u ≡ plan = cc in
-        let places : (j : ℕ) → j < n → place plan j ≡ placeOf (u j) =
+        let places : PlacesOf u =
         λ j p. ap (λ y. place y j) (sym is) ∙ place-plan-of job sound u j p in
         go u hu (table-placed job sound anywhere n u hu .planned plan places) places (ap (λ y. y .version) (sym is))
 
     -- the plan of one row more
-    plan-more : (u : ℕ → Row) → ((j : ℕ) → j < n → place plan j ≡ placeOf (u j)) → plan .version ≡ 1 → (s : Row)
+    plan-more : (u : ℕ → Row) → PlacesOf u → plan .version ≡ 1 → (s : Row)
         → planOf big (put u n s) ≡ longerPlan job plan (placeOf s)
     unfolding planOf longerPlan longerJob
     plan-more u places v s =
@@ -223,7 +226,7 @@ module _ (job : Job) (plan : Plan) (d : Description) (new : NewSound job d) (roo
         ap (λ (m : Attempt (ℕ → Row)).
         (m >>= λ before. placeTask big (anywhere n) n before n >>= λ s. placed (put before n s)) >>= λ w. placed (planOf big w)) start
 
-    same-plan : (u : ℕ → Row) → ((j : ℕ) → j < n → place plan j ≡ placeOf (u j)) → plan .version ≡ 1 → (a : Attempt Row) → planned u a ≡ taken a
+    same-plan : (u : ℕ → Row) → PlacesOf u → plan .version ≡ 1 → (a : Attempt Row) → planned u a ≡ taken a
     unfolding _>>=_
     same-plan u places v (refused s) = refl
     same-plan u places v (placed s) = ap placed (plan-more u places v s)

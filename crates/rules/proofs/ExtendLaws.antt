@@ -127,7 +127,8 @@ module _ (job big : Job) (ext : Extends job big) where
   rows-to-same plan longer zero h e = refl
   rows-to-same plan longer (suc n) h e =
       let ih = rows-to-same plan longer n (omega arith) (λ j p. e j (omega arith)) in
-      ap₂ (λ t r. put t n r) ih (ap (λ t. plannedRow big longer t n) ih ∙ planned-row-same n (omega arith) (rowsTo job plan n) plan longer (e n (omega arith)))
+      let row = planned-row-same n (omega arith) (rowsTo job plan n) plan longer (e n (omega arith)) in
+      ap₂ (λ t r. put t n r) ih (ap (λ t. plannedRow big longer t n) ih ∙ row)
 
   -- the planner's rows of the first tasks
   pub place-tasks-same : (may : ℕ → Copy → Bool) (n : ℕ) → n ≤ tasks job → placeTasks big may n ≡ placeTasks job may n

@@ -38,7 +38,8 @@ module _ (job out : List ℕ) where
   unfolding planFile
   plan-refused-keeps = refused-kept (planFileFault job out) plan out
 
-  pub plan-keeps-beyond : result (planFile job out .answer) ≡ 0 → drop (planLength (tasks (jobAt job))) (planFile job out .buffer) ≡ drop (planLength (tasks (jobAt job))) out
+  pub plan-keeps-beyond : let need = planLength (tasks (jobAt job)) in
+      result (planFile job out .answer) ≡ 0 → drop need (planFile job out .buffer) ≡ drop need out
   unfolding planFile
   plan-keeps-beyond h = done-beyond (planFileFault job out) plan out _ (planned-length job out (result-done _ h)) h
 
@@ -50,6 +51,7 @@ module _ (job plan : List ℕ) (loss : Loss) (out : List ℕ) where
   unfolding replayFiles
   replay-refused-keeps = refused-kept (replayFault job plan loss out) run out
 
-  pub replay-keeps-beyond : result (replayFiles job plan loss out .answer) ≡ 0 → drop (12 * tasks (jobAt job)) (replayFiles job plan loss out .buffer) ≡ drop (12 * tasks (jobAt job)) out
+  pub replay-keeps-beyond : let need = 12 * tasks (jobAt job) in
+      result (replayFiles job plan loss out .answer) ≡ 0 → drop need (replayFiles job plan loss out .buffer) ≡ drop need out
   unfolding replayFiles
   replay-keeps-beyond h = done-beyond (replayFault job plan loss out) run out _ (length-replay (jobAt job) (planIn job plan) loss) h

@@ -20,7 +20,8 @@ Inv-loop d job plan into next from delay old new m node₀ start₀ finish₀ se
     StoredTo (longerJob job d) plan j (table node start finish sets) before last × (j ≤ tasks job)
 
 abbrev μ-loop : tie.MeasureT-loop
-μ-loop d job plan into next from delay old new m node₀ start₀ finish₀ sets₀ before₀ last₀ n j₀ node start finish sets before last j = tasks job - j
+μ-loop d job plan into next from delay old new m node₀ start₀ finish₀ sets₀ before₀ last₀ n j₀ node start finish sets before last j =
+    tasks job - j
 
 merged-links-requires : tie.Need-merged-links-requires Inv-loop μ-loop
 merged-links-requires c κs =
