@@ -3,9 +3,10 @@
  *
  * A job file lists nodes, tasks and links. A plan file gives each task a
  * primary and a backup copy. Each number in a file is 4 bytes, unsigned, low
- * byte first; N is the job's task count and P its node count. In a job of version
- * 2 each task has a ready time, before its deadline in the file; in a job of
- * version 1 it has none and counts as ready at 0. A plan has version 1 for each job.
+ * byte first; N is the job's task count and P its node count. From version 2 on each
+ * task of a job has a ready time, before its deadline in the file, and from version 3
+ * on each node has a send time, behind its detect time; in older versions these count
+ * as 0. A plan has version 1 for each job.
  * The description of one more task is its entry as the job's version has it, a link
  * count, and from and delay of each link to it, rising strictly by from. A booking is
  * a description with four numbers behind it: primary node, primary start, backup
@@ -39,7 +40,7 @@
  * which buffer is meant. seqopchi_plan with out_len 0 tells whether a job reads well;
  * where seqopchi_judge gives 0, job and plan have no fault.
  *   1 short       fewer than 4 bytes are left for a number
- *   2 version     a job's version is not 1 or 2, or a plan's is not 1
+ *   2 version     a job's version is not 1, 2 or 3, or a plan's is not 1
  *   3 count       a count is outside its limits, or the plan's count is not N
  *   4 value       any other number is outside its limits; also a link's to
  *                 that is not above its from. A from in a description is below N
@@ -63,7 +64,7 @@ extern "C" {
 #endif
 
 /* Versions and limits of both files. Job versions count from 1. */
-#define SEQOPCHI_NEWEST_JOB_VERSION 2
+#define SEQOPCHI_NEWEST_JOB_VERSION 3
 #define SEQOPCHI_PLAN_VERSION 1
 #define SEQOPCHI_MIN_NODES 2
 #define SEQOPCHI_MAX_NODES 16
@@ -71,18 +72,20 @@ extern "C" {
 #define SEQOPCHI_MAX_TASKS 64
 #define SEQOPCHI_MAX_LINKS 512
 #define SEQOPCHI_MAX_DETECT 1000
+#define SEQOPCHI_MAX_SEND 1000
 #define SEQOPCHI_MIN_DEADLINE 1
 /* Ready times, deadlines, run times, delays and starts. */
 #define SEQOPCHI_MAX_TIME 1000000
 
 /* Lengths in bytes of what is read and written. Those of a job, a description and a
- * booking go by the job's version: the entry of a node (detect time, in each version)
- * and of a task (ready time, from version 2 on; deadline; run times), then all. */
-#define SEQOPCHI_NODE_BYTES 4
+ * booking go by the job's version: the entry of a node (detect time; send time, from
+ * version 3 on) and of a task (ready time, from version 2 on; deadline; run times),
+ * then all. */
+#define SEQOPCHI_NODE_BYTES(version) ((version) >= 3 ? 8 : 4)
 #define SEQOPCHI_TASK_BYTES(version, nodes) \
     (((version) >= 2 ? 8 : 4) + 4 * (nodes))
 #define SEQOPCHI_JOB_BYTES(version, nodes, tasks, links) \
-    (16 + SEQOPCHI_NODE_BYTES * (nodes) \
+    (16 + SEQOPCHI_NODE_BYTES(version) * (nodes) \
      + SEQOPCHI_TASK_BYTES(version, nodes) * (tasks) + 12 * (links))
 #define SEQOPCHI_PLAN_BYTES(tasks) (8 + 16 * (tasks))
 #define SEQOPCHI_REPLAY_BYTES(tasks) (12 * (tasks))
@@ -90,7 +93,7 @@ extern "C" {
     (SEQOPCHI_TASK_BYTES(version, nodes) + 4 + 8 * (links))
 #define SEQOPCHI_BOOKING_BYTES(version, nodes, links) \
     (SEQOPCHI_DESCRIPTION_BYTES(version, nodes, links) + 16)
-#define SEQOPCHI_MAX_JOB_BYTES 10832 /* of the newest version */
+#define SEQOPCHI_MAX_JOB_BYTES 10896 /* of the newest version */
 #define SEQOPCHI_MAX_PLAN_BYTES SEQOPCHI_PLAN_BYTES(SEQOPCHI_MAX_TASKS)
 #define SEQOPCHI_MAX_REPLAY_BYTES SEQOPCHI_REPLAY_BYTES(SEQOPCHI_MAX_TASKS)
 /* The longest that read well, of the newest version: with a link from each task. */
@@ -135,7 +138,8 @@ enum seqopchi_outcome {
 };
 
 /* Whether plan keeps rules A to G and the ready times of job. The delay from a copy
- * of i to a copy of j is 0 on one node, else the link's. A link i to j is strong if
+ * of i to a copy of j, for planner and replay too, is 0 on one node, else the link's
+ * plus the send time of the node that the copy of i is on. A link i to j is strong if
  * backup i's finish plus delay is at most primary j's start, else weak. The fault
  * set of a task, which document 01 calls its peril, is the nodes that hold its
  * primary or the primary of a task from which a path of weak links leads to it. In

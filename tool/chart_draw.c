@@ -125,21 +125,37 @@ static void draw_shared(struct chart *c, const struct copy *a, const struct copy
                  x_of(c, to) - x_of(c, from), bottom - top - 2);
 }
 
+static void draw_node_line(struct chart *c, double y, const char *what, uint32_t number)
+{
+    buffer_print(&c->svg, "<text class=\"small\" x=\"16\" y=\"%.1f\">%s %u</text>\n", y,
+                 what, (unsigned)number);
+}
+
+/* A node's label: two lines, or three where the job has send times. */
+static void draw_node(struct chart *c, uint32_t node, double middle)
+{
+    const struct file *job = &c->in->job;
+    bool sends = SEND < node_fields_in(job_version(job));
+    double y = sends ? middle - 8 : middle - 1;
+
+    buffer_print(&c->svg, "<text class=\"node\" x=\"16\" y=\"%.1f\">node %u</text>\n",
+                 y, (unsigned)node);
+    if (is_lost(c, node))
+        draw_node_line(c, y + 14, "lost at", c->o->tick);
+    else
+        draw_node_line(c, y + 14, "detect", job_node(job, node, DETECT));
+    if (sends)
+        draw_node_line(c, y + 26, "send", job_node(job, node, SEND));
+}
+
 static void draw_lane(struct chart *c, uint32_t node)
 {
-    double top = c->lane[node], bottom = c->lane[node + 1], middle = (top + bottom) / 2;
+    double top = c->lane[node], bottom = c->lane[node + 1];
 
     if (node % 2 == 0)
         buffer_print(&c->svg, "<rect class=\"lane\" x=\"%d\" y=\"%.1f\" width=\"%.1f\" "
                      "height=\"%.1f\"/>\n", LEFT, top, c->right - LEFT, bottom - top);
-    buffer_print(&c->svg, "<text class=\"node\" x=\"16\" y=\"%.1f\">node %u</text>\n"
-                 "<text class=\"small\" x=\"16\" y=\"%.1f\">", middle - 1,
-                 (unsigned)node, middle + 13);
-    if (is_lost(c, node))
-        buffer_print(&c->svg, "lost at %u</text>\n", (unsigned)c->o->tick);
-    else
-        buffer_print(&c->svg, "detect %u</text>\n",
-                     (unsigned)job_detect(&c->in->job, node));
+    draw_node(c, node, (top + bottom) / 2);
     buffer_print(&c->svg, "<path class=\"rule\" d=\"M16 %.1fH%.1f\"/>\n", bottom, c->right);
 }
 

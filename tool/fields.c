@@ -16,6 +16,16 @@ static struct field field(uint32_t low, uint32_t high, const char *name)
     return f;
 }
 
+static struct field node_field_at(const struct file *job, size_t at)
+{
+    size_t row = node_at(job, 1) - node_at(job, 0), past = at - node_at(job, 0);
+    const struct node_field *column = &node_fields[past % row / 4];
+    struct field f = field(0, column->most, "");
+
+    snprintf(f.name, sizeof f.name, "the %s of node %zu", column->name, past / row);
+    return f;
+}
+
 /* So far behind the beginning of a task's entry. */
 static struct field entry_field(const struct file *job, size_t past, const char *whose)
 {
@@ -60,18 +70,12 @@ static struct field link_field(const struct file *job, size_t at)
 
 struct field job_field(const struct file *job, size_t at)
 {
-    struct field f;
-
     if (at == 0)
         return field(1, SEQOPCHI_NEWEST_JOB_VERSION, "the version");
     if (at == 4)
         return field(SEQOPCHI_MIN_NODES, SEQOPCHI_MAX_NODES, "the node count");
-    if (at < task_count_at(job)) {
-        f = field(0, SEQOPCHI_MAX_DETECT, "");
-        snprintf(f.name, sizeof f.name, "the detect time of node %zu",
-                 (at - node_at(0)) / SEQOPCHI_NODE_BYTES);
-        return f;
-    }
+    if (at < task_count_at(job))
+        return node_field_at(job, at);
     if (at == task_count_at(job))
         return field(SEQOPCHI_MIN_TASKS, SEQOPCHI_MAX_TASKS, "the task count");
     if (at < link_count_at(job))

@@ -6,6 +6,11 @@
 
 #include <stdlib.h>
 
+const struct node_field node_fields[NODE_FIELDS] = {
+    [DETECT] = { "detect", "detect time", 1, SEQOPCHI_MAX_DETECT },
+    [SEND] = { "send", "send time", 3, SEQOPCHI_MAX_SEND },
+};
+
 /* The test is no verdict on the file: it keeps this program inside its memory
  * whatever it is linked with. */
 uint32_t number_at(const struct file *f, size_t at)
@@ -28,6 +33,15 @@ bool has_ready(uint32_t version)
     return version >= 2;
 }
 
+int node_fields_in(uint32_t version)
+{
+    int count = 0;
+
+    while (count < NODE_FIELDS && node_fields[count].since <= version)
+        count++;
+    return count;
+}
+
 uint32_t job_version(const struct file *job)
 {
     return number_at(job, 0);
@@ -38,19 +52,19 @@ uint32_t job_nodes(const struct file *job)
     return number_at(job, 4);
 }
 
-size_t node_at(uint32_t node)
+size_t node_at(const struct file *job, uint32_t node)
 {
-    return 8 + SEQOPCHI_NODE_BYTES * (size_t)node;
+    return 8 + SEQOPCHI_NODE_BYTES(job_version(job)) * (size_t)node;
 }
 
-uint32_t job_detect(const struct file *job, uint32_t node)
+uint32_t job_node(const struct file *job, uint32_t node, int field)
 {
-    return number_at(job, node_at(node));
+    return number_at(job, node_at(job, node) + 4 * (size_t)field);
 }
 
 size_t task_count_at(const struct file *job)
 {
-    return node_at(job_nodes(job));
+    return node_at(job, job_nodes(job));
 }
 
 uint32_t job_tasks(const struct file *job)

@@ -16,16 +16,30 @@ struct link {
     uint32_t from, to, delay;
 };
 
+/* The numbers of a node's entry, in file order. */
+enum { DETECT, SEND, NODE_FIELDS };
+
+struct node_field {
+    const char *word, *name; /* in a text and in a message */
+    uint32_t since;          /* the first version of a job that has it */
+    uint32_t most;
+};
+
+extern const struct node_field node_fields[NODE_FIELDS];
+
 uint32_t number_at(const struct file *f, size_t at);
 
 /* Whether this tool knows the form of a job version, and whether that has ready
  * times. */
 bool knows_version(uint32_t version);
 bool has_ready(uint32_t version);
+/* How many of the node fields it has: the first ones. */
+int node_fields_in(uint32_t version);
 
 uint32_t job_version(const struct file *job);
 uint32_t job_nodes(const struct file *job);
-uint32_t job_detect(const struct file *job, uint32_t node);
+/* Of a field that the version has. */
+uint32_t job_node(const struct file *job, uint32_t node, int field);
 uint32_t job_tasks(const struct file *job);
 uint32_t job_ready(const struct file *job, uint32_t task); /* 0 where there is none */
 uint32_t job_deadline(const struct file *job, uint32_t task);
@@ -34,7 +48,7 @@ uint32_t job_links(const struct file *job);
 struct link job_link(const struct file *job, uint32_t link);
 
 /* Offsets at which the sections, their rows and parts of these begin. */
-size_t node_at(uint32_t node);
+size_t node_at(const struct file *job, uint32_t node);
 size_t task_count_at(const struct file *job);
 size_t task_at(const struct file *job, uint32_t task);
 size_t deadline_at(const struct file *job, uint32_t task);

@@ -8,7 +8,7 @@
 #include <stdio.h>
 #include <string.h>
 
-#define TOOL_VERSION "1.2"
+#define TOOL_VERSION "1.3"
 
 enum { OUTPUT = 1, OUTPUT_DUE = 2, LOSS = 4, JOB = 8, TWO_OUTPUTS = 16 };
 

@@ -6,6 +6,8 @@
 #include "new_task.h"
 #include "refusal.h"
 
+#include <stdio.h>
+
 struct job_text {
     uint32_t version;
     struct section nodes, tasks, links;
@@ -21,14 +23,30 @@ struct packing {
     bool named;
 };
 
-/* node K detect TICKS */
-static void pack_node(struct text *t, struct section *nodes)
+/* Only where the version has it: send TICKS */
+static void pack_node_field(struct text *t, struct job_text *job,
+                            const struct node_field *field)
 {
-    take_index(t, "node", nodes->entries);
-    take_word(t, "detect");
-    section_add(nodes, take_number(t, "the detect time"), t->line);
+    char what[40];
+
+    if (field->since <= job->version) {
+        snprintf(what, sizeof what, "the %s", field->name);
+        take_word(t, field->word);
+        section_add(&job->nodes, take_number(t, what), t->line);
+    } else if (took_word(t, field->word)) {
+        text_fault(t, "expected the end of the line, found '%s': nodes have a %s from "
+                   "'job %u' on", field->word, field->name, (unsigned)field->since);
+    }
+}
+
+/* node K detect TICKS send TICKS */
+static void pack_node(struct text *t, struct job_text *job)
+{
+    take_index(t, "node", job->nodes.entries);
+    for (int i = 0; i < NODE_FIELDS; i++)
+        pack_node_field(t, job, &node_fields[i]);
     take_line_end(t);
-    nodes->entries++;
+    job->nodes.entries++;
 }
 
 /* Only where the version has it: ready TICK */
@@ -96,7 +114,7 @@ void pack_copies(struct text *t, struct section *to)
 static void pack_job_line(struct text *t, struct job_text *job)
 {
     if (job->tasks.entries == 0 && took_word(t, "node"))
-        pack_node(t, &job->nodes);
+        pack_node(t, job);
     else if (job->links.entries == 0 && took_word(t, "task"))
         pack_task(t, job);
     else if (took_word(t, "link"))

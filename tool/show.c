@@ -5,15 +5,24 @@
 #include "refusal.h"
 
 #include <stdlib.h>
+#include <string.h>
 
 static void add_nodes(struct buffer *b, const struct file *job)
 {
     uint32_t nodes = job_nodes(job);
+    int fields = node_fields_in(job_version(job));
 
-    buffer_print(b, "\nnode  detect\n");
-    for (uint32_t node = 0; node < nodes; node++)
-        buffer_print(b, "%4u  %6u\n", (unsigned)node,
-                     (unsigned)job_detect(job, node));
+    buffer_print(b, "\nnode");
+    for (int i = 0; i < fields; i++)
+        buffer_print(b, "  %s", node_fields[i].word);
+    buffer_print(b, "\n");
+    for (uint32_t node = 0; node < nodes; node++) {
+        buffer_print(b, "%4u", (unsigned)node);
+        for (int i = 0; i < fields; i++)
+            buffer_print(b, "  %*u", (int)strlen(node_fields[i].word),
+                         (unsigned)job_node(job, node, i));
+        buffer_print(b, "\n");
+    }
 }
 
 /* Tables of tasks begin with the task and, where the job has it, its ready time. */

@@ -79,6 +79,7 @@ write_bytes() { # write_bytes FILE BYTE..: bytes in hexadecimal
 
 lines() { printf '%s\n' "$@"; }
 
+. "$home/tool/test_sending.sh"
 . "$home/tool/test_asking.sh"
 
 # --- good files -------------------------------------------------------------------
@@ -108,15 +109,15 @@ task  primary      backup        finish  deadline
     good show j
     check 'show tells the run times' has out '   1        30                   3        3        3'
     check 'show without a plan' eval '! has out plan'
-    check 'no ready times in version 1' eval '! has out ready'
+    check 'neither ready nor send times in version 1' eval '! has out ready && ! has out send'
     good show j p
     check 'show tells the verdict' has out 'plan, by the judge: passed'
     check 'show tells the lanes' has out '        9 to      12  backup  of task 1'
 }
 
-maximum_job() { # maximum_job VERSION READY: a job of the greatest counts, as text
+maximum_job() { # maximum_job VERSION READY SEND: a job of the greatest counts, as text
     echo "job $1"
-    for ((n = 0; n < 16; n++)); do echo "node $n detect 1000"; done
+    for ((n = 0; n < 16; n++)); do echo "node $n detect 1000 $3"; done
     for ((t = 0; t < 64; t++)); do
         echo "task $t $2 deadline 1000000 run 1 2 3 4 5 6 7 8 9 10 11 12 13 14 15 1000000"
     done
@@ -159,22 +160,27 @@ longest_job() { # longest_job TEXT BYTES
 }
 
 round_trip_tests() {
-    maximum_job 1 '' >max.txt
-    maximum_job 2 'ready 1000' >max2.txt
+    maximum_job 1 '' '' >max.txt
+    maximum_job 2 'ready 1000' '' >max2.txt
+    maximum_job 3 'ready 1000' 'send 1000' >max3.txt
     block 1 "$home/tool/TEXT.md" >described.txt
     block 2 "$home/tool/TEXT.md" >described2.txt
-    block 3 "$home/tool/TEXT.md" >described-plan.txt
-    round_trip described.txt described-plan.txt
-    round_trip described2.txt described-plan.txt
-    round_trip described2.txt
+    block 3 "$home/tool/TEXT.md" >described3.txt
+    block 4 "$home/tool/TEXT.md" >described-plan.txt
+    for text in described.txt described2.txt described3.txt; do
+        round_trip $text described-plan.txt
+        round_trip $text
+    done
     round_trip "$home/examples/sample.txt"
     round_trip "$home/examples/lessons.txt"
     round_trip "$home/examples/slow-links.txt"
+    round_trip "$home/examples/slow-cards.txt"
     round_trip "$home/examples/oscilloscope.txt"
     round_trip "$home/examples/oscilloscope.txt" "$home/examples/oscilloscope-refused.txt"
     round_trip "$home/examples/oscilloscope.txt" "$home/examples/oscilloscope-passed.txt"
     longest_job max.txt 10576
     longest_job max2.txt 10832
+    longest_job max3.txt 10896
     printf 'job\t1\r\n\r\n  node 0 detect 1#x\nnode 1 detect 1\ntask 0 deadline 9 run 007 -' >odd.txt
     good pack odd.txt -o odd.job
     good unpack odd.job
@@ -225,7 +231,7 @@ plan_of() { # plan_of PLACES PLACES: two tasks, each: node start node start
 
 job_fault_tests() {
     job_text 's/^job 1/job 0/'
-    refuses "2 (version): line 2 of 'x.txt', the version (byte 0 when packed), is 0; it must be from 1 to 2" pack x.txt -o x
+    refuses "2 (version): line 2 of 'x.txt', the version (byte 0 when packed), is 0; it must be from 1 to 3" pack x.txt -o x
     job_text '/^node/d; s/run.*/run/'
     refuses "3 (count): 'x.txt', the node count (byte 4 when packed), is 0; it must be from 2 to 16" pack x.txt -o x
     job_text 's/node 1 detect 1/node 1 detect 1001/'
@@ -263,7 +269,7 @@ plan_fault_tests() {
     refuses "1 (short): 'x' has fewer than 4 bytes left at byte 20, for the backup start of task 0" replay j x
     bytes_of j
     write_bytes x 07 "${bytes[@]:1}"
-    refuses "2 (version): byte 0 of 'x', the version, is 7; it must be from 1 to 2" judge x p
+    refuses "2 (version): byte 0 of 'x', the version, is 7; it must be from 1 to 3" judge x p
     bytes_of p
     write_bytes x 02 "${bytes[@]:1}"
     refuses "2 (version): byte 0 of 'x', the version, is 2; it must be 1" judge j x
@@ -433,36 +439,46 @@ mark_at() { # mark_at TICK: of an axis that ends at 30, 880 pixels behind 92
     has out "class=\"ready\" d=\"M$(awk -v t="$1" 'BEGIN { printf "%.1f", 92 + 880 * t / 30 - 1 }') "
 }
 
-# The numbers of sample J in version 2, in file order.
-later_fields() {
+# The numbers of sample J, in file order.
+job_fields() { # job_fields VERSION
     local task node
     lines 'the version' 'the node count'
-    for node in 0 1 2; do echo "the detect time of node $node"; done
+    for node in 0 1 2; do
+        echo "the detect time of node $node"
+        [[ $1 -lt 3 ]] || echo "the send time of node $node"
+    done
     echo 'the task count'
     for task in 0 1; do
-        lines "the ready time of task $task" "the deadline of task $task"
+        [[ $1 -lt 2 ]] || echo "the ready time of task $task"
+        echo "the deadline of task $task"
         for node in 0 1 2; do echo "the run time of task $task on node $node"; done
     done
     lines 'the link count' 'the from of link 0' 'the to of link 0' 'the delay of link 0'
 }
 
-ready_file_tests() {
-    local at=0 name version
-    later 2 12
+cut_job_tests() { # cut_job_tests VERSION JOB: cut before and within each number, and with a byte behind it
+    local at=0 name
     while read -r name; do
         for rest in 0 3; do
-            head -c $((at + rest)) r >x
+            head -c $((at + rest)) "$2" >x
             refuses "1 (short): 'x' has fewer than 4 bytes left at byte $at, for $name" list x
         done
         at=$((at + 4))
-    done < <(later_fields)
-    check 'the length of the job' test "$at" -eq "$(wc -c <r)"
-    { cat r; printf x; } >x
-    refuses "6 (tail): byte 80 of 'x' follows the last section, where the file must end" judge x p
-    for version in 0 3 4 258 4294967295; do
+    done < <(job_fields "$1")
+    check 'the length of the job' test "$at" -eq "$(wc -c <"$2")"
+    { cat "$2"; printf x; } >x
+    refuses "6 (tail): byte $at of 'x' follows the last section, where the file must end" judge x p
+}
+
+ready_file_tests() {
+    local version
+    later 2 12
+    cut_job_tests 1 j
+    cut_job_tests 2 r
+    for version in 0 4 5 258 4294967295; do
         bytes_of r
         write_bytes x $(printf '%02x ' $((version & 255)) $((version >> 8 & 255)) $((version >> 16 & 255)) $((version >> 24))) "${bytes[@]:4}"
-        refuses "2 (version): byte 0 of 'x', the version, is $version; it must be from 1 to 2" show x
+        refuses "2 (version): byte 0 of 'x', the version, is $version; it must be from 1 to 3" show x
     done
     write_bytes x 01 "${bytes[@]:1}"
     refuses "4 (value): byte 60 of 'x', the from of link 0, is 3; it must be from 0 to 1" unpack x
@@ -488,8 +504,8 @@ ready_text_tests() {
     wrong "'x.txt', line 9: expected the ready time, found '-5'" pack x.txt -o y
     later_text 0 0 's/ready 0 \(deadline 30\) run 3/\1 ready 0 run 3/'
     wrong "'x.txt', line 9: expected 'ready', found 'deadline'" pack x.txt -o y
-    later_text 0 0 's/^job 2/job 3/; s/^node .*/& words of another version/'
-    refuses "2 (version): line 2 of 'x.txt', the version (byte 0 when packed), is 3; it must be from 1 to 2" pack x.txt -o y
+    later_text 0 0 's/^job 2/job 4/; s/^node .*/& words of another version/'
+    refuses "2 (version): line 2 of 'x.txt', the version (byte 0 when packed), is 4; it must be from 1 to 3" pack x.txt -o y
     check 'no file after a refusal' test ! -e y
     lines 'plan 2' 'task 0 primary 0 at 0 backup 1 at 5' 'task 1 primary 0 at 4 backup 1 at 9' >x.txt
     refuses "2 (version): line 1 of 'x.txt', the version (byte 0 when packed), is 2; it must be 1" pack x.txt --job r -o y
@@ -537,6 +553,8 @@ damage_tests() {
     sed -i 's/^task/task ready 5/' n.txt
     good pack n.txt --job r -o d.task
     damaged_job r r.plan 5
+    slow 3 0 1000
+    damaged_job s r.plan 5
     good pack "$home/examples/one-more-fit.txt" --job o.job -o d.task
     damaged_plan o.job o.plan
 }
@@ -587,7 +605,9 @@ flip() { # flip FILE BIT BYTE..
 text_damage_tests() {
     local position
     later_text 2 12
-    for source in "$home/examples/sample.txt" x.txt; do
+    cp x.txt later.txt
+    slow_text 3 0 1000
+    for source in "$home/examples/sample.txt" later.txt x.txt; do
         bytes_of "$source"
         for ((position = 0; position < ${#bytes[@]}; position += 3)); do
             write_bytes d.txt "${bytes[@]:0:position}"
@@ -599,7 +619,9 @@ text_damage_tests() {
     for text in '' '#' 'job' 'job one' 'plan 1' 'job 4294967296' 'job 1 1' 'Job 1' 'plan 1\ntask 1' 'job 1\nnode 1 detect 1' \
         'job 1\nnode 0 detect' 'job 1\ntask 0 deadline 1 run\nnode 0 detect 1' 'job 1\nlink 0 to 1 delay -1' 'job 1\n\0' \
         'plan 1\ntask 0 primary 0 at 0 backup 1 at 5 6' 'job 1\nnode 0 detect 1\nnode 1 detect 1\ntask 0 deadline 1 run 1' \
-        'job 2' 'job 3' 'job 2\ntask 0 ready' 'job 2\ntask 0 ready 1 ready 1' 'job 2\ntask 0 ready - deadline 1 run' 'job 1\ntask 0 ready 0 deadline 1 run'; do
+        'job 2' 'job 3' 'job 4' 'job 2\ntask 0 ready' 'job 2\ntask 0 ready 1 ready 1' 'job 2\ntask 0 ready - deadline 1 run' \
+        'job 1\ntask 0 ready 0 deadline 1 run' 'job 3\nnode 0 detect 1' 'job 3\nnode 0 detect 1 send' \
+        'job 3\nnode 0 detect 1 send 1 send 1' 'job 2\nnode 0 detect 1 send 0'; do
         printf "$text" >d.txt
         damaged_text
         check "no text: $text" test $status -ne 0 -o "$text" = 'plan 1'
@@ -644,7 +666,7 @@ usage_tests() {
     done
     good --help
     good --version
-    check 'version' is out 'seqopchi 1.2, for job files of versions 1 to 2 and plan files of version 1'
+    check 'version' is out 'seqopchi 1.3, for job files of versions 1 to 3 and plan files of version 1'
     for command in plan judge replay list show pack unpack chart ask commit; do
         check "help lists $command" has <("$tool" --help) "  $command "
         good "$command" --help
@@ -658,7 +680,7 @@ input_tests() {
     wrong "cannot read 'none'" judge j none
     wrong "cannot read 'none'" pack "$home/examples/oscilloscope-passed.txt" --job none -o y
     wrong 'longer than' pack /dev/zero -o y
-    refuses "2 (version): byte 0 of '/dev/zero', the version, is 0; it must be from 1 to 2" list /dev/zero
+    refuses "2 (version): byte 0 of '/dev/zero', the version, is 0; it must be from 1 to 3" list /dev/zero
     "$tool" list - <j >out 2>err
     check 'a job from standard input' is out "$("$tool" list j)"
     "$tool" judge j - <p >out 2>err
@@ -752,7 +774,7 @@ week_step() {
 }
 
 for group in sample round_trip example job_fault plan_fault rule ready ready_chart ready_file ready_text \
-    ask commit stale full task_fault task_file task_text usage ask_usage input output commit_output week demo; do
+    send send_chart send_file send_text ask commit stale full task_fault task_file task_text usage ask_usage input output commit_output week demo; do
     "${group}_tests"
 done
 ASAN_OPTIONS+=:detect_leaks=0 # half the time; leaks were looked for up to here

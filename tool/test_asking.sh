@@ -1,5 +1,5 @@
 # Tests of ask, commit and the files of one more task; read by test.sh, whose functions it uses.
-# The files j and p are sample J and its plan (0 0 1 5, 0 4 1 9), r is sample J in version 2.
+# The files j and p are sample J and its plan (0 0 1 5, 0 4 1 9), r and s are sample J in versions 2 and 3.
 
 # What ask and commit answer to the usual task: two ticks on each node, behind task 1.
 usual=('task deadline 30 run 2 2 2' 'link from 1 delay 1')
@@ -80,7 +80,7 @@ $usual_place"
     ask_beside_tests
 }
 
-ask_beside_tests() { # beside copies that the planner did not place, and ready times
+ask_beside_tests() { # beside copies that the planner did not place, ready times and send times
     task_text "${usual[@]}"
     plan_of '0 0 1 5' '0 10 1 20'
     offers 0 13 15 1 23 25 j x.plan n.txt
@@ -91,6 +91,11 @@ ask_beside_tests() { # beside copies that the planner did not place, and ready t
     offers 0 7 9 1 12 14 r p n.txt
     task_text 'task ready 29 deadline 30 run 2 2 2'
     refuses '15 (no primary): no node has a place for the primary of task 2' ask r p n.txt
+    slow 3 0 1000
+    task_text 'task ready 0 deadline 30 run - 2 2' 'link from 1 delay 1'
+    offers 2 11 13 1 14 16 s p n.txt
+    slow 2 0 1000
+    offers 2 10 12 1 13 15 s p n.txt
 }
 
 # --- committing -------------------------------------------------------------------
@@ -156,6 +161,29 @@ task 2 ready 8 deadline 30 run 2 2 2
 link 0 to 1 delay 2
 link 1 to 2 delay 1'
     good plan y.job -o x.plan
+    check "the planner's plan of it" cmp -s x.plan y.plan
+    slow 3 0 1000
+    books s p n.txt
+    good unpack y.job
+    check 'version 3, send times' has out 'job 3
+node 0 detect 1 send 3
+node 1 detect 1 send 0
+node 2 detect 1 send 1000
+task 0 ready 0 '
+    good plan y.job -o x.plan
+    check "the planner's plan of it" cmp -s x.plan y.plan
+    longest_commit_tests
+}
+
+longest_commit_tests() { # the longest job without its last task, then that task
+    sed '/^task 63 /d; / to 63 /d' max3.txt >x.txt
+    good pack x.txt -o x.job
+    good plan x.job -o x.plan
+    sed -n 's/^task 63 /task /p; s/^link \([0-9]*\) to 63 /link from \1 /p' max3.txt >n.txt
+    books x.job x.plan n.txt
+    good pack max3.txt -o t.job
+    check 'the longest job, by commit' cmp -s y.job t.job
+    good plan t.job -o x.plan
     check "the planner's plan of it" cmp -s x.plan y.plan
 }
 
@@ -224,12 +252,23 @@ stale_tests() {
     breaks 19 long2.job r '0 at 7 backup 1 at 12' 'task ready 8 deadline 30 run 2 2 2'
     sed -i 's/ready 8/ready 7/' n.txt
     books r p n.txt
+    stale_send_tests
     task_text "${usual[@]}" 'place primary 0 at 7 backup 2 at 13'
     books j p n.txt
     task_text "${usual[@]}" "$usual_place"
     keeps "${stale/task 2/task 3}" long.job long.plan n.txt
     good pack n.txt --job long.job -o n.task
     keeps "${stale/task 2/task 3}" long.job long.plan n.task
+}
+
+stale_send_tests() { # a result that is still on its way
+    slow 3 2 1000
+    task_text 'task ready 0 deadline 30 run 2 2 2' "${usual[1]}"
+    good commit s p n.txt -o long3.job long3.plan
+    breaks 11 long3.job s '2 at 10 backup 1 at 20' 'task ready 0 deadline 30 run 2 2 2'
+    breaks 12 long3.job s '0 at 7 backup 2 at 14' 'task ready 0 deadline 30 run 2 2 2'
+    sed -i 's/at 14/at 15/' n.txt
+    books s p n.txt
 }
 
 wide_job() { # wide_job TASKS LINKS: into w.job and w.plan, of two nodes
@@ -454,10 +493,12 @@ task_text_tests() {
     good pack described-plan.txt --job d.job -o d.plan
     good pack described2.txt -o d2.job
     good plan d2.job -o d2.plan
-    block 4 "$home/tool/TEXT.md" >described-task.txt
-    block 5 "$home/tool/TEXT.md" >described-booking.txt
+    good pack described3.txt -o d3.job
+    block 5 "$home/tool/TEXT.md" >described-task.txt
+    block 6 "$home/tool/TEXT.md" >described-booking.txt
     task_round_trip described-task.txt d.job d.plan
     task_round_trip described-booking.txt d2.job d2.plan
+    task_round_trip described-booking.txt d3.job d.plan
     books d.job d.plan described-task.txt
     books d2.job d2.plan described-booking.txt
     task_round_trip "$home/examples/one-more-fit.txt" o.job o.plan
@@ -467,7 +508,7 @@ task_text_tests() {
     task_text 'task ready 0 deadline 30 run 2 2 2' 'link from 0 delay 1' 'link from 1 delay 0' 'place primary 0 at 30 backup 1 at 3'
     task_round_trip n.txt r p
     check 'the text of a booking, stale or not' cmp -s t.txt n.txt
-    good pack max2.txt -o t.job
+    good pack max3.txt -o t.job
     good plan t.job -o t.plan
     { lines 'task ready 1 deadline 1 run - 1 1 1 1 1 1 1 1 1 1 1 1 1 1 1'; links_from 64; lines 'place primary 1 at 1 backup 2 at 2'; } >n.txt
     task_round_trip n.txt t.job t.plan
@@ -628,6 +669,8 @@ task_damage_tests() {
     task_text 'task ready 7 deadline 30 run 2 2 2' 'link from 0 delay 3' 'link from 1 delay 1'
     good pack n.txt --job r -o n.task
     damaged_tasks r 5
+    slow 3 0 1000
+    damaged_tasks s 17
     task_text_damage_tests
 }
 

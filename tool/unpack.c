@@ -26,14 +26,24 @@ static void add_entry(struct buffer *b, const struct file *job, const struct fil
     buffer_print(b, "\n");
 }
 
+static void add_node(struct buffer *b, const struct file *job, uint32_t node)
+{
+    int fields = node_fields_in(job_version(job));
+
+    buffer_print(b, "node %u", (unsigned)node);
+    for (int i = 0; i < fields; i++)
+        buffer_print(b, " %s %u", node_fields[i].word,
+                     (unsigned)job_node(job, node, i));
+    buffer_print(b, "\n");
+}
+
 static void add_job_text(struct buffer *b, const struct file *job)
 {
     uint32_t nodes = job_nodes(job), tasks = job_tasks(job), links = job_links(job);
 
     buffer_print(b, "job %u\n", (unsigned)job_version(job));
     for (uint32_t node = 0; node < nodes; node++)
-        buffer_print(b, "node %u detect %u\n", (unsigned)node,
-                     (unsigned)job_detect(job, node));
+        add_node(b, job, node);
     for (uint32_t task = 0; task < tasks; task++) {
         buffer_print(b, "task %u", (unsigned)task);
         add_entry(b, job, job, task_at(job, task));

@@ -13,10 +13,10 @@ enum { MAX_NODES = 16, MAX_TASKS = 64, MAX_LINKS = 512 };
 /* A task that is asked for is read behind the job's own. */
 enum { SLOTS = MAX_TASKS + 1 };
 
-enum { MAX_DETECT = 1000, MAX_TIME = 1000000 };
+enum { MAX_DETECT = 1000, MAX_SEND = 1000, MAX_TIME = 1000000 };
 
 /* The newest version of a job. A plan has version 1 only. */
-enum { NEWEST = 2 };
+enum { NEWEST = 3 };
 
 enum refusal {
     SHORT = 1, VERSION, COUNT, VALUE, LINK_ORDER, TAIL, UNABLE, SAME_NODE, EARLY, LATE,
@@ -29,14 +29,16 @@ struct link { uint32_t from, to, delay; };
 struct job {
     uint32_t version, nodes, tasks, links;
     uint32_t detect[MAX_NODES];
+    uint32_t send[MAX_NODES];
     uint32_t ready[SLOTS];
     uint32_t deadline[SLOTS];
     uint32_t run[SLOTS][MAX_NODES];
     struct link link[MAX_LINKS];
 };
 
-/* A copy holds its node from start up to, but not including, finish. */
-struct copy { uint32_t node, start, finish; };
+/* A copy holds its node from start up to, but not including, finish. At `sent` its result has left
+   for the other nodes: the send time is added once, where the copy is placed (request (iv)). */
+struct copy { uint32_t node, start, finish, sent; };
 
 struct layout { struct copy primary[SLOTS], backup[SLOTS]; };
 
@@ -77,11 +79,16 @@ static uint64_t read_within(struct file *file, uint32_t low, uint32_t high, enum
     return 0;
 }
 
+/* Send times are there from version 3 on. */
 static uint64_t read_nodes(struct file *file, struct job *job)
 {
     uint64_t refused = read_within(file, 2, MAX_NODES, COUNT, &job->nodes);
-    for (uint32_t node = 0; !refused && node < job->nodes; node++)
+    memset(job->send, 0, sizeof job->send);
+    for (uint32_t node = 0; !refused && node < job->nodes; node++) {
         refused = read_within(file, 0, MAX_DETECT, VALUE, &job->detect[node]);
+        if (!refused && job->version >= 3)
+            refused = read_within(file, 0, MAX_SEND, VALUE, &job->send[node]);
+    }
     return refused;
 }
 
@@ -152,6 +159,12 @@ static uint64_t read_job(struct file file, struct job *job)
     return refused;
 }
 
+static void set_finish(const struct job *job, uint32_t task, struct copy *copy)
+{
+    copy->finish = copy->start + job->run[task][copy->node];
+    copy->sent = copy->finish + job->send[copy->node];
+}
+
 static inline uint64_t read_copy(struct file *file, const struct job *job, uint32_t task,
                                  struct copy *copy)
 {
@@ -163,7 +176,7 @@ static inline uint64_t read_copy(struct file *file, const struct job *job, uint3
     refused = read_within(file, 0, MAX_TIME, VALUE, &copy->start);
     if (refused)
         return refused;
-    copy->finish = copy->start + job->run[task][copy->node];
+    set_finish(job, task, copy);
     return 0;
 }
 
@@ -216,7 +229,7 @@ static uint32_t later(uint32_t a, uint32_t b)
 
 static uint32_t arrival(const struct copy *sender, uint32_t delay, uint32_t node)
 {
-    return sender->finish + (sender->node == node ? 0 : delay);
+    return sender->node == node ? sender->finish : sender->sent + delay;
 }
 
 static int in_time(const struct copy *sender, uint32_t delay, const struct copy *receiver)
@@ -350,8 +363,9 @@ static void put_plan(const struct layout *plan, uint32_t tasks, uint8_t *out)
 
 static size_t job_bytes(const struct job *job)
 {
+    size_t node = job->version >= 3 ? 8 : 4;
     size_t task = (job->version >= 2 ? 8 : 4) + 4 * (size_t)job->nodes;
-    return 16 + 4 * (size_t)job->nodes + task * job->tasks + 12 * (size_t)job->links;
+    return 16 + node * job->nodes + task * job->tasks + 12 * (size_t)job->links;
 }
 
 static uint8_t *put_next(uint8_t *at, uint32_t number)
@@ -363,8 +377,11 @@ static uint8_t *put_next(uint8_t *at, uint32_t number)
 static void put_job(const struct job *job, uint8_t *out)
 {
     out = put_next(put_next(out, job->version), job->nodes);
-    for (uint32_t node = 0; node < job->nodes; node++)
+    for (uint32_t node = 0; node < job->nodes; node++) {
         out = put_next(out, job->detect[node]);
+        if (job->version >= 3)
+            out = put_next(out, job->send[node]);
+    }
     out = put_next(out, job->tasks);
     for (uint32_t task = 0; task < job->tasks; task++) {
         if (job->version >= 2)

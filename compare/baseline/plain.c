@@ -70,14 +70,17 @@ static int find_place(const struct held *draft, uint32_t task, const uint32_t *r
     best->finish = UINT32_MAX;
     for (uint32_t node = 0; node < draft->job.nodes; node++) {
         uint32_t run = draft->job.run[task][node];
-        struct copy copy = { node, ready[node], ready[node] + run };
+        struct copy copy = { node, ready[node], ready[node] + run, 0 };
         if (run == 0 || barred >> node & 1)
             continue;
         avoid_clashes(draft, task, faults, &copy);
         if (copy.finish < best->finish)
             *best = copy;
     }
-    return best->finish <= draft->job.deadline[task];
+    if (best->finish > draft->job.deadline[task])
+        return 0;
+    set_finish(&draft->job, task, best);
+    return 1;
 }
 
 /* Puts off each node's ready moment until the sender's result is there. */
@@ -92,7 +95,7 @@ static int place_primary(struct held *draft, uint32_t task)
 {
     uint32_t ready[MAX_NODES] = { 0 };
     /* The ready time is waited for like a result; with no delay, its node is no matter. */
-    struct copy capture = { 0, 0, draft->job.ready[task] };
+    struct copy capture = { 0, 0, draft->job.ready[task], draft->job.ready[task] };
     wait_for(draft, &capture, 0, ready);
     for (uint32_t i = 0; i < draft->job.links; i++) {
         const struct link *link = &draft->job.link[i];

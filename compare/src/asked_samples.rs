@@ -12,10 +12,10 @@ use crate::samples::{bytes_of, job, plan_of, with_ready, Check, Listed, FILL, SA
 use crate::sized::planned;
 
 /// The third task's places.
-const ASKED: Listed = [0, 7, 1, 12];
+pub const ASKED: Listed = [0, 7, 1, 12];
 
 /// Run time 2 on each of the nodes; it waits for both tasks of J.
-fn third(deadline: u64) -> NewTask {
+pub fn third(deadline: u64) -> NewTask {
     let inputs = vec![Input { from: 0, delay: 1 }, Input { from: 1, delay: 3 }];
     NewTask { task: Task { ready: 0, deadline, run: vec![2; 3] }, inputs }
 }
@@ -27,7 +27,7 @@ fn ready_at(ready: u64) -> NewTask {
 }
 
 /// J with the third task: its links are merged with that of J.
-fn longer(job: Job) -> Job {
+pub fn longer(job: Job) -> Job {
     let link = |from, to, delay| Link { from, to, delay };
     let mut longer = Job { links: vec![link(0, 1, 2), link(0, 2, 1), link(1, 2, 3)], ..job };
     longer.tasks.push(third(30).task);
@@ -39,7 +39,7 @@ fn booking(new: &NewTask, row: Listed) -> Vec<u8> {
 }
 
 /// A job and a plan as bytes.
-type Pair = (Vec<u8>, Vec<u8>);
+pub type Pair = (Vec<u8>, Vec<u8>);
 
 /// J and sample 1.
 fn pair() -> Pair {
@@ -53,7 +53,13 @@ type Rooms = (usize, usize);
 const NEEDED: Rooms = (112, 56);
 
 impl Check<'_> {
-    fn asked(&mut self, sample: &str, pair: &Pair, task: &[u8], expected: Result<Listed, Refusal>) {
+    pub fn asked(
+        &mut self,
+        sample: &str,
+        pair: &Pair,
+        task: &[u8],
+        expected: Result<Listed, Refusal>,
+    ) {
         const KEPT: u32 = 0xa5a5_a5a5;
         let mut places = [KEPT; 4];
         let got = (self.console.ask)(&pair.0, &pair.1, task, &mut places);
@@ -67,7 +73,7 @@ impl Check<'_> {
     }
 
     /// The expected pair is the longer one.
-    fn committed(
+    pub fn committed(
         &mut self,
         sample: &str,
         pair: &Pair,

@@ -37,7 +37,7 @@ pub fn read_booking(job: &Job, bytes: &[u8]) -> Result<(NewTask, Row), Refusal> 
 }
 
 fn read_new_task(file: &mut Cursor, job: &Job) -> Result<NewTask, Refusal> {
-    let task = read_task(file, job.version, job.detect.len())?;
+    let task = read_task(file, job.version, job.nodes.len())?;
     let count = file.count(LINKS)?;
     let mut inputs: Vec<Input> = Vec::new();
     for _ in 0..count {

@@ -73,7 +73,7 @@ fn replay(job: &[u8], plan: &[u8], loss: Option<Loss>, out: &mut [u8]) -> u64 {
 fn try_replay(job: &[u8], plan: &[u8], loss: Option<Loss>, out: &mut [u8]) -> Result<(), Refusal> {
     let job = read_job(job)?;
     let plan = read_plan(&job, plan)?;
-    if let Some(loss) = loss.filter(|loss| loss.node as usize >= job.detect.len()) {
+    if let Some(loss) = loss.filter(|loss| loss.node as usize >= job.nodes.len()) {
         return Err(Refusal::at(NO_SUCH_NODE, u64::from(loss.node)));
     }
     room_for(replay_bytes(job.tasks.len()), out)?;

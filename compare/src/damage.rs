@@ -1,6 +1,8 @@
 //! Damaged files.
 
-use crate::files::{read_job, write_job, Job, MAX_TIME, NEWEST, READY};
+use crate::files::{
+    read_job, task_count_offset, write_job, Job, MAX_SEND, MAX_TIME, NEWEST, READY, SEND,
+};
 use crate::random::Random;
 
 /// Numbers at and around the limits of document 01.
@@ -88,7 +90,7 @@ fn set_number(random: &mut Random, file: &mut [u8]) {
 fn set_count(random: &mut Random, file: &mut [u8]) {
     let mut places = vec![0, 4];
     if let Ok(job) = read_job(file) {
-        let tasks = 8 + 4 * job.detect.len();
+        let tasks = task_count_offset(&job);
         let links = file.len() - 4 - 12 * job.links.len();
         places.extend([tasks, tasks, links, links]);
     }
@@ -143,10 +145,29 @@ pub fn ready_at_limit(random: &mut Random, job: &Job) -> Option<Vec<u8>> {
     Some(write_job(&job))
 }
 
-/// A job under the number of another version, as often as not of one that is read.
+/// A job with a send time at its limit or one beyond; none if it has no send times.
+pub fn send_at_limit(random: &mut Random, job: &Job) -> Option<Vec<u8>> {
+    if !SEND.is_in(job.version) {
+        return None;
+    }
+    let mut job = job.clone();
+    let node = random.below(job.nodes.len());
+    job.nodes[node].send = random.pick(&[MAX_SEND, MAX_SEND + 1]);
+    Some(write_job(&job))
+}
+
+/// A job that ends among its nodes, within a number or between two.
+pub fn cut_in_nodes(random: &mut Random, job: &Job) -> Vec<u8> {
+    let mut file = write_job(job);
+    file.truncate(random.between(8, task_count_offset(job) as u64) as usize);
+    file
+}
+
+/// A job under the number of another version, as often as not of one that is read. Each version
+/// has a layout of its own, so it is misread there.
 pub fn renumbered(random: &mut Random, job: &Job) -> Vec<u8> {
-    let other = (job.version % NEWEST + 1) as u32;
-    let unread = random.pick(&[0, 3, 4, 255, 256, u32::MAX]);
+    let other = ((job.version - 1 + random.between(1, NEWEST - 1)) % NEWEST + 1) as u32;
+    let unread = random.pick(&[0, 4, 5, 255, 256, u32::MAX]);
     let version = if random.percent(50) { other } else { unread };
     let mut file = write_job(job);
     file[..4].copy_from_slice(&version.to_le_bytes());

@@ -39,7 +39,7 @@ fn random_inputs(random: &mut Random, job: &Job, most: u64) -> Vec<Input> {
 
 /// A task with no deadline to speak of and so many links, from tasks drawn at random.
 pub fn roomy_task(random: &mut Random, job: &Job, links: usize) -> NewTask {
-    let run = job.detect.iter().map(|_| random.between(5, 20)).collect();
+    let run = job.nodes.iter().map(|_| random.between(5, 20)).collect();
     let ready = if READY.is_in(job.version) { random.between(0, 300) } else { 0 };
     let mut senders: Vec<usize> = (0..job.tasks.len()).collect();
     while senders.len() > links {

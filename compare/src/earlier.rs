@@ -25,9 +25,17 @@ pub fn without_ready_times(job: &Job) -> Job {
     job
 }
 
-/// The plan of the job without its ready times, if it breaks one of them. If it breaks none, it is
-/// the planner's plan still: a ready time only takes places away.
-pub fn hasty_plan(job: &Job) -> Option<Plan> {
-    let plan = planner::plan(&without_ready_times(job)).ok()?;
+/// The job as it was before request (iv): results leave at once. None if they do so now.
+pub fn without_send_times(job: &Job) -> Option<Job> {
+    let mut earlier = job.clone();
+    earlier.nodes.iter_mut().for_each(|node| node.send = 0);
+    (earlier != *job).then_some(earlier)
+}
+
+/// The plan of the job as it was, if it breaks a rule now. If it breaks none, it is the planner's
+/// plan still: ready times and send times only take places away. (A result that arrives later may
+/// make a link weak and fault sets greater, never the other way.)
+pub fn hasty_plan(job: &Job, earlier: &Job) -> Option<Plan> {
+    let plan = planner::plan(earlier).ok()?;
     judge(job, &plan).is_err().then_some(plan)
 }

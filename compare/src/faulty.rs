@@ -65,7 +65,7 @@ fn disordered(random: &mut Random, new: &NewTask) -> NewTask {
 fn at_limit(random: &mut Random, job: &Job, new: &NewTask) -> NewTask {
     let mut new = new.clone();
     let greatest = random.pick(&[MAX_TIME, MAX_TIME + 1]);
-    let (tasks, node) = (job.tasks.len(), random.below(job.detect.len()));
+    let (tasks, node) = (job.tasks.len(), random.below(job.nodes.len()));
     let place = random.between(0, 4);
     let at = random.below(new.inputs.len().max(1));
     match (place, new.inputs.get_mut(at)) {

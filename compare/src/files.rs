@@ -6,10 +6,11 @@ pub const NODES: (u64, u64) = (2, 16);
 pub const TASKS: (u64, u64) = (1, 64);
 pub const LINKS: (u64, u64) = (0, 512);
 pub const MAX_DETECT: u64 = 1_000;
+pub const MAX_SEND: u64 = 1_000;
 pub const MAX_TIME: u64 = 1_000_000;
 
 /// The newest version of a job. A plan has version 1 only.
-pub const NEWEST: u64 = 2;
+pub const NEWEST: u64 = 3;
 
 /// A number of an entry: the first version of a job that has it, and its limits.
 pub struct Field {
@@ -24,6 +25,12 @@ impl Field {
     }
 }
 
+const DETECT: Field = Field { since: 1, low: 0, high: MAX_DETECT };
+pub const SEND: Field = Field { since: 3, low: 0, high: MAX_SEND };
+
+/// A node's entry.
+const NODE: [Field; 2] = [DETECT, SEND];
+
 pub const READY: Field = Field { since: 2, low: 0, high: MAX_TIME };
 const DEADLINE: Field = Field { since: 1, low: 1, high: MAX_TIME };
 
@@ -33,10 +40,16 @@ const TASK: [Field; 2] = [READY, DEADLINE];
 #[derive(Clone, Debug, PartialEq, Eq)]
 pub struct Job {
     pub version: u64,
-    /// The detect time of each node.
-    pub detect: Vec<u64>,
+    pub nodes: Vec<Node>,
     pub tasks: Vec<Task>,
     pub links: Vec<Link>,
+}
+
+#[derive(Clone, Debug, PartialEq, Eq)]
+pub struct Node {
+    pub detect: u64,
+    /// What a result needs, beside the link's delay, to leave for another node.
+    pub send: u64,
 }
 
 #[derive(Clone, Debug, PartialEq, Eq)]
@@ -151,14 +164,20 @@ impl Cursor<'_> {
 pub fn read_job(bytes: &[u8]) -> Result<Job, Refusal> {
     let mut file = Cursor::new(bytes);
     let version = file.version(NEWEST)?;
-    let nodes = file.count(NODES)?;
-    let detect = (0..nodes).map(|_| file.value(0, MAX_DETECT)).collect::<Result<_, _>>()?;
+    let node_count = file.count(NODES)?;
+    let mut node = || read_node(&mut file, version);
+    let nodes = (0..node_count).map(|_| node()).collect::<Result<_, _>>()?;
     let task_count = file.count(TASKS)?;
-    let mut task = || read_task(&mut file, version, nodes);
+    let mut task = || read_task(&mut file, version, node_count);
     let tasks = (0..task_count).map(|_| task()).collect::<Result<_, _>>()?;
     let links = read_links(&mut file, task_count)?;
     file.end()?;
-    Ok(Job { version, detect, tasks, links })
+    Ok(Job { version, nodes, tasks, links })
+}
+
+fn read_node(file: &mut Cursor, version: u64) -> Result<Node, Refusal> {
+    let [detect, send] = file.fields(version, &NODE)?;
+    Ok(Node { detect, send })
 }
 
 pub fn read_task(file: &mut Cursor, version: u64, nodes: usize) -> Result<Task, Refusal> {
@@ -231,6 +250,16 @@ pub fn bytes_of(numbers: &[u64]) -> Vec<u8> {
     numbers.iter().flat_map(|&number| (number as u32).to_le_bytes()).collect()
 }
 
+/// The nodes' entries in a job of that version.
+fn node_numbers(version: u64, nodes: &[Node]) -> impl Iterator<Item = u64> + '_ {
+    nodes.iter().flat_map(move |node| present(version, &NODE, [node.detect, node.send]))
+}
+
+/// Where the task count stands, behind the nodes.
+pub fn task_count_offset(job: &Job) -> usize {
+    8 + 4 * node_numbers(job.version, &job.nodes).count()
+}
+
 /// A task's entry in a job of that version.
 pub fn task_numbers(version: u64, task: &Task) -> Vec<u64> {
     present(version, &TASK, [task.ready, task.deadline]).chain(task.run.iter().copied()).collect()
@@ -243,8 +272,8 @@ pub fn row_numbers(row: &Row) -> [u64; 4] {
 
 /// The bytes of a job, good or not: whoever makes test files wants faulty ones too.
 pub fn write_job(job: &Job) -> Vec<u8> {
-    let mut numbers = vec![job.version, job.detect.len() as u64];
-    numbers.extend(&job.detect);
+    let mut numbers = vec![job.version, job.nodes.len() as u64];
+    numbers.extend(node_numbers(job.version, &job.nodes));
     numbers.push(job.tasks.len() as u64);
     numbers.extend(job.tasks.iter().flat_map(|task| task_numbers(job.version, task)));
     numbers.push(job.links.len() as u64);
@@ -266,7 +295,7 @@ mod tests {
     use super::*;
     use crate::jobs::random_job;
     use crate::random::Random;
-    use crate::samples::with_ready;
+    use crate::samples::{with_ready, with_send};
     use crate::sized::planned;
 
     #[test]
@@ -296,8 +325,26 @@ mod tests {
     }
 
     #[test]
+    fn a_send_time_is_no_part_of_older_jobs() {
+        for version in [1, 2] {
+            let file = write_job(&Job { version, ..with_send([7, 8, 9]) });
+            assert_eq!(read_job(&file), Ok(Job { version, ..with_send([0; 3]) }));
+        }
+    }
+
+    #[test]
+    fn a_send_time_stands_behind_its_detect_time() {
+        let mut file = write_job(&with_send([7, 8, 9]));
+        assert_eq!(file[8..20], [1, 0, 0, 0, 7, 0, 0, 0, 1, 0, 0, 0]);
+        file[12..16].copy_from_slice(&(MAX_SEND as u32).to_le_bytes());
+        assert_eq!(read_job(&file), Ok(with_send([MAX_SEND, 8, 9])));
+        file[12..16].copy_from_slice(&(MAX_SEND as u32 + 1).to_le_bytes());
+        assert_eq!(read_job(&file), Err(Refusal::at(VALUE, 12)));
+    }
+
+    #[test]
     fn the_longest_jobs() {
-        for (version, bytes) in [(1, 10_576), (2, 10_832)] {
+        for (version, bytes) in [(1, 10_576), (2, 10_832), (3, 10_896)] {
             assert_eq!(planned(version, 16, 64, 512).job.len(), bytes);
         }
     }

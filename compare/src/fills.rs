@@ -93,6 +93,7 @@ fn book_next(
     let Some(row) = held.places(trial, &new)? else {
         return Ok(());
     };
+    held.try_hasty(trial, &new, row)?;
     if random.percent(20) {
         // Beside so many copies, another place is mostly taken. What comes of it is not held.
         held.book(trial, &new, moved_row(random, &new.task, row))?;

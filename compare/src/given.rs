@@ -44,7 +44,7 @@ impl Given {
     }
 
     pub fn nodes(&self) -> usize {
-        self.job.detect.len()
+        self.job.nodes.len()
     }
 
     pub fn plan_room(&self) -> usize {

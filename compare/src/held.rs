@@ -1,8 +1,8 @@
 //! A passed pair as it is held between calls; ask and commit on it, and what has to hold of them.
 
-use crate::asking::{longer_job, longer_plan};
+use crate::asking::{self, longer_job, longer_plan};
 use crate::bookings::{write_booking, write_description, NewTask};
-use crate::earlier::keeps_rule_e_of_01;
+use crate::earlier::{keeps_rule_e_of_01, without_send_times};
 use crate::files::{read_job, read_plan, write_plan, Job, Place, Plan, Row};
 use crate::given::Given;
 use crate::losses::try_survival;
@@ -85,6 +85,17 @@ impl Held {
             trial.tally.unplaced_as_planned += 1;
         }
         Ok(None)
+    }
+
+    /// Commits the places that the task would have with all send times 0, if they are others.
+    pub fn try_hasty(&self, trial: &mut Trial, new: &NewTask, row: Row) -> Result<(), Mismatch> {
+        let earlier = without_send_times(self.job());
+        let hasty = earlier.and_then(|job| asking::ask(&job, &self.plan, new).ok());
+        if let Some(hasty) = hasty.filter(|&hasty| hasty != row) {
+            trial.tally.asked_by_send += 1;
+            self.book(trial, new, hasty)?;
+        }
+        Ok(())
     }
 
     /// Commits with room for all. What is answered is the longer pair, if it was booked: just if

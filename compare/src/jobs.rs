@@ -1,6 +1,8 @@
 //! Random jobs. Numbers are small, so that copies get in each other's way.
 
-use crate::files::{Job, Link, Task, LINKS, MAX_DETECT, MAX_TIME, NEWEST, READY};
+use crate::files::{
+    Job, Link, Node, Task, LINKS, MAX_DETECT, MAX_SEND, MAX_TIME, NEWEST, READY, SEND,
+};
 use crate::random::Random;
 
 /// What a job's numbers are drawn from.
@@ -11,6 +13,7 @@ struct Style {
     max_ready: u64,
     max_run: u64,
     max_detect: u64,
+    max_send: u64,
     min_delay: u64,
     max_delay: u64,
     /// Chances in a hundred. A node that is lame for a task takes longer than all that are not.
@@ -27,7 +30,7 @@ pub fn random_job(random: &mut Random) -> Job {
     let tasks = deadlines(random, &style).into_iter();
     let mut job = Job {
         version: style.version,
-        detect: (0..style.nodes).map(|_| random_detect(random, &style)).collect(),
+        nodes: (0..style.nodes).map(|_| random_node(random, &style)).collect(),
         tasks: tasks.map(|deadline| random_task(random, &style, deadline)).collect(),
         links: random_links(random, &style),
     };
@@ -48,6 +51,7 @@ fn random_style(random: &mut Random) -> Style {
         max_ready: if READY.is_in(version) { random.pick(&[2, 8, 8, 20, 60]) } else { 0 },
         max_run: random.pick(&[1, 2, 4, 4, 8]),
         max_detect: random.pick(&[0, 1, 1, 3]),
+        max_send: if SEND.is_in(version) { random.pick(&[1, 3, 3, 8, 20]) } else { 0 },
         min_delay: 0,
         max_delay: random.pick(&[0, 1, 3, 3, 8, 30]),
         lame: 0,
@@ -86,8 +90,19 @@ fn random_size(random: &mut Random) -> (u64, u64) {
     }
 }
 
-fn random_detect(random: &mut Random, style: &Style) -> u64 {
-    (random.between(0, style.max_detect) * style.unit).min(MAX_DETECT)
+fn random_node(random: &mut Random, style: &Style) -> Node {
+    let detect = (random.between(0, style.max_detect) * style.unit).min(MAX_DETECT);
+    Node { detect, send: random_send(random, style) }
+}
+
+/// Two cards of five are quick, and one of a hundred is as slow as can be.
+fn random_send(random: &mut Random, style: &Style) -> u64 {
+    match random.between(0, 99) {
+        _ if style.max_send == 0 => 0,
+        0..=39 => 0,
+        40 => MAX_SEND,
+        _ => (random.between(0, style.max_send) * style.unit).min(MAX_SEND),
+    }
 }
 
 fn random_delay(random: &mut Random, style: &Style) -> u64 {
@@ -145,9 +160,12 @@ fn random_links(random: &mut Random, style: &Style) -> Vec<Link> {
 
 /// Sets some numbers to the greatest that the reader takes, or near it.
 fn push_to_limits(random: &mut Random, job: &mut Job) {
-    for detect in &mut job.detect {
+    for node in &mut job.nodes {
         if random.percent(30) {
-            *detect = MAX_DETECT;
+            node.detect = MAX_DETECT;
+        }
+        if SEND.is_in(job.version) && random.percent(30) {
+            node.send = random.pick(&[MAX_SEND, MAX_SEND - 1]);
         }
     }
     for task in &mut job.tasks {

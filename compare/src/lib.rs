@@ -1,4 +1,4 @@
-//! A second implementation of document 01 and of requests (i) to (iii) of document 02, and
+//! A second implementation of document 01 and of requests (i) to (iv) of document 02, and
 //! what compares the proved library with it.
 
 pub mod asked_samples;
@@ -13,6 +13,7 @@ pub mod faulty;
 pub mod files;
 pub mod fills;
 pub mod foreign;
+pub mod forgetful;
 pub mod framed;
 pub mod given;
 pub mod held;
@@ -26,6 +27,7 @@ pub mod replay;
 pub mod rounds;
 pub mod rules;
 pub mod samples;
+pub mod sent_samples;
 pub mod sequences;
 pub mod sized;
 pub mod stack;

@@ -1,5 +1,8 @@
 //! Losses of a node, tried on a plan.
 
+use crate::console::SECOND;
+use crate::earlier::without_send_times;
+use crate::files::write_job;
 use crate::given::Given;
 use crate::random::Random;
 use crate::replay::Loss;
@@ -14,8 +17,8 @@ pub fn moments_after(survival: &Survival) -> [u64; 4] {
     [survival.end(), survival.end() + 1, 2_000_000, u64::from(u32::MAX)]
 }
 
-/// Losses at every start and finish, one tick before each, and after the end. Of a plan that was
-/// refused, or a long one, only some of them.
+/// No loss, and losses at every start and finish, one tick before each, and after the end. Of a
+/// plan that was refused, or a long one, only some of them.
 pub fn try_losses(
     trial: &mut Trial,
     random: &mut Random,
@@ -32,11 +35,27 @@ pub fn try_losses(
     let node = random.below(given.nodes());
     losses.extend(moments_after(survival).map(|moment| (node, moment)));
     losses.push((node, random.between(0, survival.end() + 1)));
-    for (node, moment) in losses {
-        let loss = Loss { node: node as u32, moment: moment as u32 };
-        trial.compare(&given.replay(plan, Some(loss), given.replay_room()))?;
+    let lost = |(node, moment)| Some(Loss { node: node as u32, moment: moment as u32 });
+    let runs: Vec<Option<Loss>> = losses.into_iter().map(lost).chain([None]).collect();
+    for &loss in &runs {
+        trial.compare(&given.replay(plan, loss, given.replay_room()))?;
     }
+    trial.tally.replayed_by_send += changed_by_send(given, plan, &runs);
     Ok(())
+}
+
+/// How many runs are not what they would be with all send times 0.
+fn changed_by_send(given: &Given, plan: &[u8], runs: &[Option<Loss>]) -> u64 {
+    let Some(earlier) = without_send_times(&given.job).map(|job| write_job(&job)) else {
+        return 0;
+    };
+    let rows = |job: &[u8], loss: Option<Loss>| {
+        let mut rows = vec![0; given.replay_room()];
+        (SECOND.replay)(job, plan, loss, &mut rows);
+        rows
+    };
+    let changed = |&&loss: &&Option<Loss>| rows(&given.bytes, loss) != rows(&earlier, loss);
+    runs.iter().filter(changed).count() as u64
 }
 
 /// Demand 3 on the console's own replay of a passed plan.

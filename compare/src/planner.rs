@@ -73,28 +73,37 @@ impl<'a> Draft<'a> {
         Plan { rows: pairs.map(|(p, b)| Row { primary: place(p), backup: place(b) }).collect() }
     }
 
-    /// The ready time, rules D and G and the deadline.
+    /// Rule D and what else the primary has to keep.
     pub fn primary_fits(&self, primary: &Copy) -> bool {
+        let mut links = self.job.links_into(self.task());
+        self.primary_free(primary) && links.all(|link| primary_fed(&self.layout, link, primary))
+    }
+
+    /// The ready time, rule G and the deadline.
+    pub fn primary_free(&self, primary: &Copy) -> bool {
         let task = self.task();
         after_ready(self.job, task, primary)
             && primary.finish <= self.job.tasks[task].deadline
-            && self.job.links_into(task).all(|link| primary_fed(&self.layout, link, primary))
             && !self.layout.primaries.iter().any(|other| overlap(other, primary))
             && !self.layout.backups.iter().any(|other| overlap(other, primary))
     }
 
-    /// Rules A, B, C, E, F and G; D was the primary's.
+    /// Rule E and what else the backup has to keep; D was the primary's.
     pub fn backup_fits(&self, backup: &Copy) -> bool {
+        let fed = |link: &Link| backup_fed(&self.layout, &self.fault_sets, link, backup);
+        self.backup_free(backup) && self.job.links_into(self.task()).all(fed)
+    }
+
+    /// Rules A, B, C, F and G.
+    pub fn backup_free(&self, backup: &Copy) -> bool {
         let task = self.task();
         let primary = &self.layout.primaries[task];
         let fault_set = &self.fault_sets[task];
-        let fed = |link: &Link| backup_fed(&self.layout, &self.fault_sets, link, backup);
         let shares = |other: usize| fault_set.is_disjoint(&self.fault_sets[other]);
         let mut backups = self.layout.backups.iter().enumerate();
         backup.node != primary.node
             && after_detection(self.job, primary, backup)
             && backup.finish <= self.job.tasks[task].deadline
-            && self.job.links_into(task).all(fed)
             && !fault_set.contains(&backup.node)
             && !self.layout.primaries.iter().any(|other| overlap(other, backup))
             && !backups.any(|(other, copy)| overlap(copy, backup) && !shares(other))
@@ -122,7 +131,7 @@ impl<'a> Draft<'a> {
     pub fn backup_starts(&self, node: usize) -> BTreeSet<u64> {
         let mut starts = self.finishes(node);
         let primary = &self.layout.primaries[self.task()];
-        starts.insert(primary.finish + self.job.detect[primary.node]);
+        starts.insert(primary.finish + self.job.nodes[primary.node].detect);
         for link in self.job.links_into(self.task()) {
             starts.insert(arrival(link, &self.layout.primaries[link.from], node));
             starts.insert(arrival(link, &self.layout.backups[link.from], node));
@@ -152,7 +161,7 @@ impl<'a> Draft<'a> {
     }
 
     /// The earliest finish, then the lowest node. On one node the earliest start is the one.
-    fn earliest(
+    pub fn earliest(
         &self,
         starts: impl Fn(usize) -> BTreeSet<u64>,
         fits: impl Fn(&Copy) -> bool,
@@ -161,7 +170,7 @@ impl<'a> Draft<'a> {
             let mut candidates = starts(node).into_iter().filter_map(|s| self.candidate(node, s));
             candidates.find(|copy| fits(copy))
         };
-        let nodes = 0..self.job.detect.len();
+        let nodes = 0..self.job.nodes.len();
         nodes.filter_map(on_node).min_by_key(|copy| (copy.finish, copy.node))
     }
 }
@@ -169,7 +178,7 @@ impl<'a> Draft<'a> {
 #[cfg(test)]
 mod tests {
     use super::*;
-    use crate::earlier::{hasty_plan, keeps_rule_e_of_01, without_ready_times};
+    use crate::earlier::{hasty_plan, keeps_rule_e_of_01, without_ready_times, without_send_times};
     use crate::jobs::random_job;
     use crate::random::Random;
     use crate::rules::in_time;
@@ -236,19 +245,30 @@ mod tests {
         assert!(moved > 30, "only {moved} plans were moved");
     }
 
-    #[test]
-    fn just_the_plans_that_break_a_ready_time_are_moved() {
+    /// How many plans of jobs as they were break a rule now: just those are planned otherwise.
+    fn moved(earlier: impl Fn(&Job) -> Job) -> u64 {
         let random = &mut Random::new(7);
         let mut moved = 0;
         for _ in 0..1500 {
             let job = random_job(random);
-            let Ok(earlier) = plan(&without_ready_times(&job)) else {
+            let earlier = earlier(&job);
+            let Ok(was_planned) = plan(&earlier) else {
                 continue;
             };
-            let stays = hasty_plan(&job).is_none();
+            let stays = hasty_plan(&job, &earlier).is_none();
             moved += u64::from(!stays);
-            assert_eq!(stays, plan(&job) == Ok(earlier));
+            assert_eq!(stays, plan(&job) == Ok(was_planned));
         }
-        assert!(moved > 300, "only {moved} plans were moved");
+        moved
+    }
+
+    #[test]
+    fn just_the_plans_that_break_a_ready_time_are_moved() {
+        assert!(moved(without_ready_times) > 300);
+    }
+
+    #[test]
+    fn just_the_plans_that_send_times_break_are_moved() {
+        assert!(moved(|job| without_send_times(job).unwrap_or(job.clone())) > 100);
     }
 }

@@ -58,7 +58,7 @@ fn from_random_node(
     draft: &Draft,
     ask: impl Fn(&mut Random, usize) -> Option<Copy>,
 ) -> Option<Copy> {
-    let nodes = draft.job.detect.len();
+    let nodes = draft.job.nodes.len();
     let first = random.below(nodes);
     (0..nodes).find_map(|step| ask(random, (first + step) % nodes))
 }
@@ -96,7 +96,7 @@ pub fn changed_plan(random: &mut Random, job: &Job, plan: &Plan) -> Plan {
 fn change(random: &mut Random, job: &Job, plan: &mut Plan) {
     let task = random.below(plan.rows.len());
     let other = random.below(plan.rows.len());
-    let nodes = job.detect.len();
+    let nodes = job.nodes.len();
     let start = plan_time(random, plan);
     let met = plan.rows[other];
     let row = &mut plan.rows[task];

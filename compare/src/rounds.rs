@@ -3,9 +3,10 @@
 use std::collections::BTreeSet;
 
 use crate::console::plan_bytes;
-use crate::damage::{damaged, disordered, ready_at_limit, renumbered};
-use crate::earlier::{hasty_plan, keeps_rule_e_of_01, without_ready_times};
-use crate::files::{read_job, read_plan, write_plan, Job, Plan, NEWEST, NODES, TASKS};
+use crate::damage::{cut_in_nodes, damaged, disordered, ready_at_limit, renumbered, send_at_limit};
+use crate::earlier::{hasty_plan, keeps_rule_e_of_01, without_ready_times, without_send_times};
+use crate::files::{read_job, read_plan, write_plan, Job, Plan, MAX_SEND, NEWEST, NODES, TASKS};
+use crate::forgetful::forgetful_plan;
 use crate::given::{some_room, Given};
 use crate::jobs::random_job;
 use crate::losses::{moments_after, try_losses, try_survival};
@@ -13,7 +14,7 @@ use crate::plans::{changed_plan, passing_plan, wild_plan};
 use crate::random::Random;
 use crate::refusal::{Refusal, SAME_NODE, VERSION};
 use crate::replay::{replay, Loss, State};
-use crate::rules::{layout, longest_weak_path};
+use crate::rules::{judge, layout, longest_weak_path};
 use crate::survival::Survival;
 use crate::tally::Tally;
 use crate::trial::{Call, Function, Mismatch, Trial};
@@ -21,8 +22,13 @@ use crate::trial::{Call, Function, Mismatch, Trial};
 pub fn round(trial: &mut Trial, random: &mut Random) -> Result<(), Mismatch> {
     let given = Given::new(random_job(random));
     let planned = try_planner(trial, random, &given)?;
-    if let Some(hasty) = hasty_plan(&given.job) {
+    if let Some(hasty) = hasty_plan(&given.job, &without_ready_times(&given.job)) {
         trial.tally.planned_later += u64::from(planned.is_some());
+        try_plan(trial, random, &given, &write_plan(&hasty))?;
+    }
+    let earlier = without_send_times(&given.job);
+    if let Some(hasty) = earlier.and_then(|earlier| hasty_plan(&given.job, &earlier)) {
+        trial.tally.planned_by_send += u64::from(planned.is_some());
         try_plan(trial, random, &given, &write_plan(&hasty))?;
     }
     let good = good_plans(random, &given.job, planned);
@@ -31,6 +37,7 @@ pub fn round(trial: &mut Trial, random: &mut Random) -> Result<(), Mismatch> {
         try_changes(trial, random, &given, plan)?;
         try_deadlines(trial, random, &given, plan)?;
         try_ready_times(trial, random, &given, plan)?;
+        try_send_times(trial, random, &given, plan)?;
     }
     let wild = write_plan(&wild_plan(random, &given.job));
     try_plan(trial, random, &given, &wild)?;
@@ -104,8 +111,15 @@ fn try_planner(
         return Err(Mismatch::new(&call, "refused the planner's own plan".into()));
     }
     let plan = read_plan(&given.job, &bytes).expect("a passed plan reads well");
-    trial.tally.planned_newly += u64::from(!keeps_rule_e_of_01(&given.job, &plan));
+    count_planned(&mut trial.tally, &given.job, &plan);
     Ok(Some(plan))
+}
+
+fn count_planned(tally: &mut Tally, job: &Job, plan: &Plan) {
+    let has_send = without_send_times(job).is_some();
+    tally.planned_version[job.version as usize - 1] += 1;
+    tally.planned_newly += u64::from(!keeps_rule_e_of_01(job, plan));
+    tally.planned_forgetfully += u64::from(has_send && forgetful_plan(job).as_ref() != Some(plan));
 }
 
 /// The planner's plan and others that keep the rules.
@@ -176,6 +190,31 @@ fn try_ready_times(
     Ok(())
 }
 
+/// A send time that a result can just afford on its way to a start, and one tick more.
+fn try_send_times(
+    trial: &mut Trial,
+    random: &mut Random,
+    given: &Given,
+    plan: &Plan,
+) -> Result<(), Mismatch> {
+    if given.job.links.is_empty() {
+        return Ok(());
+    }
+    let link = random.pick(&given.job.links);
+    let placed = layout(&given.job, plan);
+    let sender = random.pick(&[placed.primaries[link.from], placed.backups[link.from]]);
+    let receiver = random.pick(&[placed.primaries[link.to], placed.backups[link.to]]);
+    let spare = receiver.start.checked_sub(sender.finish + link.delay);
+    if let Some(spare) = spare.filter(|&spare| spare <= MAX_SEND) {
+        for send in [spare, spare + 1] {
+            let mut job = Job { version: NEWEST, ..given.job.clone() };
+            job.nodes[sender.node].send = send;
+            try_changed_job(trial, job, plan)?;
+        }
+    }
+    Ok(())
+}
+
 /// A job that was changed under its plan.
 fn try_changed_job(trial: &mut Trial, job: Job, plan: &Plan) -> Result<(), Mismatch> {
     let (given, plan) = (Given::new(job), write_plan(plan));
@@ -204,6 +243,10 @@ fn try_plan(
     if code == 0 {
         count_passed(&mut trial.tally, &given.job, &plan);
         try_survival(trial, random, given, bytes, &survival)?;
+    } else {
+        let earlier = without_send_times(&given.job);
+        let passed = earlier.is_some_and(|job| judge(&job, &plan).is_ok());
+        trial.tally.refused_by_send += u64::from(passed);
     }
     Ok(())
 }
@@ -214,7 +257,7 @@ fn count_passed(tally: &mut Tally, job: &Job, plan: &Plan) {
     tally.passed_deep += u64::from(weak_path >= 2);
     tally.passed_large += u64::from(plan.rows.len() >= 32);
     tally.passed_newly += u64::from(!keeps_rule_e_of_01(job, plan));
-    tally.passed_version_1 += u64::from(job.version == 1);
+    tally.passed_version[job.version as usize - 1] += 1;
     tally.passed_with_ready += u64::from(job.tasks.iter().any(|task| task.ready > 0));
 }
 
@@ -275,6 +318,8 @@ fn try_damage(
     let faulty = [
         disordered(random, &given.job),
         ready_at_limit(random, &given.job),
+        send_at_limit(random, &given.job),
+        Some(cut_in_nodes(random, &given.job)),
         Some(renumbered(random, &given.job)),
     ];
     for job in faulty.into_iter().flatten() {

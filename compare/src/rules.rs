@@ -13,6 +13,8 @@ pub struct Copy {
     pub node: usize,
     pub start: u64,
     pub finish: u64,
+    /// The send time of its node.
+    pub send: u64,
 }
 
 /// The copies placed so far, by task. A plan's layout has both copies of every task;
@@ -25,7 +27,7 @@ pub struct Layout {
 
 pub fn copy(job: &Job, task: usize, place: Place) -> Copy {
     let finish = place.start + job.tasks[task].run[place.node];
-    Copy { node: place.node, start: place.start, finish }
+    Copy { node: place.node, start: place.start, finish, send: job.nodes[place.node].send }
 }
 
 pub fn layout(job: &Job, plan: &Plan) -> Layout {
@@ -36,9 +38,9 @@ pub fn layout(job: &Job, plan: &Plan) -> Layout {
     }
 }
 
-/// When the result of `sender` is on `node`.
+/// When the result of `sender` is on `node`. Another node's send time is no matter (request (iv)).
 pub fn arrival(link: &Link, sender: &Copy, node: usize) -> u64 {
-    let delay = if sender.node == node { 0 } else { link.delay };
+    let delay = if sender.node == node { 0 } else { link.delay + sender.send };
     sender.finish + delay
 }
 
@@ -58,7 +60,7 @@ pub fn after_ready(job: &Job, task: usize, primary: &Copy) -> bool {
 
 /// Rule B: the loss of the primary's node is known before the backup starts.
 pub fn after_detection(job: &Job, primary: &Copy, backup: &Copy) -> bool {
-    primary.finish + job.detect[primary.node] <= backup.start
+    primary.finish + job.nodes[primary.node].detect <= backup.start
 }
 
 /// Rule D for one link, with the receiving primary given.
@@ -154,7 +156,7 @@ fn tasks_clash(layout: &Layout, fault_sets: &[FaultSet], a: usize, b: usize) -> 
 mod tests {
     use super::*;
     use crate::earlier::keeps_rule_e_of_01;
-    use crate::files::Task;
+    use crate::files::{Node, Task};
     use crate::replay::{replay, Loss};
     use crate::samples::{plan_of, Listed};
 
@@ -162,7 +164,8 @@ mod tests {
     fn job_of(runs: &[u64], links: &[(usize, usize, u64)]) -> Job {
         let links = links.iter().map(|&(from, to, delay)| Link { from, to, delay });
         let tasks = runs.iter().map(|&run| Task { ready: 0, deadline: 100, run: vec![run; 5] });
-        Job { version: 1, detect: vec![0; 5], tasks: tasks.collect(), links: links.collect() }
+        let nodes = vec![Node { detect: 0, send: 0 }; 5];
+        Job { version: 1, nodes, tasks: tasks.collect(), links: links.collect() }
     }
 
     /// Demand 3, as far as every task has to be finished.

@@ -1,14 +1,15 @@
 //! The samples of document 01, starred or not, sample 8 as request (i) of document 02 changes it;
-//! samples for request (ii), and those for request (iii), which have a file of their own.
+//! samples for request (ii), and those for requests (iii) and (iv), which have files of their own.
 
 use crate::asked_samples;
 use crate::console::{plan_bytes, replay_bytes, Console};
-use crate::files::{write_job, write_plan, Job, Link, Place, Plan, Row, Task, MAX_TIME};
+use crate::files::{write_job, write_plan, Job, Link, Node, Place, Plan, Row, Task, MAX_TIME};
 use crate::refusal::{
     describe, Refusal, COMMON_LOSS, COUNT, EARLY, NO_BACKUP, NO_PRIMARY, OVERLAP, SAME_NODE, SHORT,
     TOO_SOON, VALUE, VERSION,
 };
 use crate::replay::Loss;
+use crate::sent_samples;
 
 /// A plan's row as the samples write it: primary node, start; backup node, start.
 pub type Listed = [u64; 4];
@@ -23,7 +24,7 @@ fn job_on(nodes: usize) -> Job {
     let task = |run: u64| Task { ready: 0, deadline: 30, run: vec![run; nodes] };
     Job {
         version: 1,
-        detect: vec![1; nodes],
+        nodes: vec![Node { detect: 1, send: 0 }; nodes],
         tasks: vec![task(4), task(3)],
         links: vec![Link { from: 0, to: 1, delay: 2 }],
     }
@@ -53,6 +54,12 @@ pub fn with_ready(first: u64, second: u64) -> Job {
     job.tasks[0].ready = first;
     job.tasks[1].ready = second;
     job
+}
+
+/// J in version 3, with a send time for each node.
+pub fn with_send(send: [u64; 3]) -> Job {
+    let nodes = send.map(|send| Node { detect: 1, send }).to_vec();
+    Job { version: 3, nodes, ..job() }
 }
 
 pub fn plan_of<const N: usize>(rows: [Listed; N]) -> Plan {
@@ -94,7 +101,7 @@ impl Check<'_> {
         }
     }
 
-    fn judged(
+    pub fn judged(
         &mut self,
         sample: &str,
         job: &Job,
@@ -105,23 +112,49 @@ impl Check<'_> {
         self.expect(sample, got, expected);
     }
 
-    fn planned(&mut self, sample: &str, job: &Job, expected: Result<[Listed; 2], Refusal>) {
+    pub fn planned(&mut self, sample: &str, job: &Job, expected: Result<[Listed; 2], Refusal>) {
+        self.file_planned(sample, &write_job(job), expected);
+    }
+
+    pub fn file_planned(
+        &mut self,
+        sample: &str,
+        job: &[u8],
+        expected: Result<[Listed; 2], Refusal>,
+    ) {
         let mut out = vec![FILL; plan_bytes(2) + SPARE];
-        let got = (self.console.plan)(&write_job(job), &mut out);
+        let got = (self.console.plan)(job, &mut out);
         self.expect(sample, got, expected.map(|_| ()));
         self.expect_bytes(sample, &out, expected.ok().map(bytes_of));
     }
 
     /// Sample 1 on a job, replayed.
-    fn replayed(&mut self, sample: &str, job: &Job, loss: Option<Loss>, expected: [Written; 2]) {
+    pub fn replayed(
+        &mut self,
+        sample: &str,
+        job: &Job,
+        loss: Option<Loss>,
+        expected: [Written; 2],
+    ) {
+        self.plan_replayed(sample, job, SAMPLE_1, loss, expected);
+    }
+
+    pub fn plan_replayed(
+        &mut self,
+        sample: &str,
+        job: &Job,
+        rows: [Listed; 2],
+        loss: Option<Loss>,
+        expected: [Written; 2],
+    ) {
         let mut out = vec![FILL; replay_bytes(2) + SPARE];
-        let got = (self.console.replay)(&write_job(job), &bytes_of(SAMPLE_1), loss, &mut out);
+        let got = (self.console.replay)(&write_job(job), &bytes_of(rows), loss, &mut out);
         self.expect(sample, got, Ok(()));
         let numbers = expected.iter().flatten().flat_map(|number| number.to_le_bytes());
         self.expect_bytes(sample, &out, Some(numbers.collect()));
     }
 
-    fn unread(&mut self, sample: &str, file: &[u8], refusal: Refusal) {
+    pub fn unread(&mut self, sample: &str, file: &[u8], refusal: Refusal) {
         let mut out = vec![FILL; plan_bytes(2) + SPARE];
         let plan = bytes_of(SAMPLE_1);
         let results = [
@@ -149,6 +182,7 @@ pub fn run(console: &Console) -> (usize, Vec<String>) {
     ready_replayed(&mut check);
     ready_unread(&mut check);
     asked_samples::run(&mut check);
+    sent_samples::run(&mut check);
     (check.count, check.faults)
 }
 
@@ -161,7 +195,7 @@ fn planner_samples(check: &mut Check) {
 }
 
 /// Node 0 is lost.
-fn lost(moment: u32) -> Option<Loss> {
+pub fn lost(moment: u32) -> Option<Loss> {
     Some(Loss { node: 0, moment })
 }
 
@@ -237,7 +271,7 @@ fn ready_replayed(check: &mut Check) {
 
 /// What the reader refuses: other versions, a ready time beyond its limit, a plan in version 2.
 fn ready_unread(check: &mut Check) {
-    for version in [0, 3] {
+    for version in [0, 4] {
         let file = write_job(&Job { version, ..with_ready(0, 0) });
         check.unread(&format!("(ii), version {version}"), &file, Refusal::at(VERSION, 0));
     }

@@ -67,6 +67,7 @@ fn step(
         return Ok(());
     };
     try_entries(trial, random, held, &new, row)?;
+    held.try_hasty(trial, &new, row)?;
     let moved = moved_row(random, &new.task, row);
     let booked =
         if moved == row { None } else { try_moved(trial, random, held, &new, row, moved)? };

@@ -4,13 +4,16 @@
 use crate::bookings::write_description;
 use crate::console::plan_bytes;
 use crate::descriptions::roomy_task;
-use crate::files::{read_job, write_job, Job, Link, Task, MAX_TIME, READY, TASKS};
+use crate::files::{read_job, write_job, Job, Link, Node, Task, MAX_TIME, READY, SEND, TASKS};
 use crate::foreign::PLAIN;
 use crate::random::Random;
 use crate::replay::Loss;
 
 /// Ready times go up to this, so that they hold back some primaries of a large job and not others.
 const MOST_READY: u64 = 300;
+
+/// Send times go up to this, half of the longest delay.
+const MOST_SEND: u64 = 10;
 
 pub struct PlannedJob {
     pub nodes: usize,
@@ -85,18 +88,21 @@ pub fn sized_job(
     let tasks_made = (0..tasks).map(|_| task()).collect();
     let mut job = Job {
         version,
-        detect: (0..nodes).map(|_| random.between(1, 5)).collect(),
+        nodes: (0..nodes).map(|_| Node { detect: random.between(1, 5), send: 0 }).collect(),
         tasks: tasks_made,
         links: sized_links(random, tasks, links),
     };
-    set_ready_times(random, &mut job);
+    set_newer_times(random, &mut job);
     job
 }
 
 /// What newer versions have is drawn last, so that the rest of a job is the same in all of them.
-fn set_ready_times(random: &mut Random, job: &mut Job) {
+fn set_newer_times(random: &mut Random, job: &mut Job) {
     if READY.is_in(job.version) {
         job.tasks.iter_mut().for_each(|task| task.ready = random.between(1, MOST_READY));
+    }
+    if SEND.is_in(job.version) {
+        job.nodes.iter_mut().for_each(|node| node.send = random.between(1, MOST_SEND));
     }
 }
 

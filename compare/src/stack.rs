@@ -15,7 +15,7 @@ extern "C" {
 
 type Used = [(&'static str, usize); 6];
 
-/// Each function with the bytes of stack that it uses, in the version that takes more.
+/// Each function with the bytes of stack that it uses, in the version that takes most.
 pub fn used(console: &Console) -> Used {
     let mut most = used_in(console, 1);
     for version in 2..=NEWEST {

@@ -124,8 +124,9 @@ impl<'a> Survival<'a> {
             let there = [(sender.primary, places.primary), (sender.backup, places.backup)];
             let fed = there.into_iter().any(|(state, place)| {
                 let finish = place.start + self.job.tasks[link.from].run[place.node];
-                let delay = if place.node == receiver.node { 0 } else { link.delay };
-                state == FINISHED && finish + delay <= receiver.start
+                let sent = finish + self.job.nodes[place.node].send + link.delay;
+                let there = if place.node == receiver.node { finish } else { sent };
+                state == FINISHED && there <= receiver.start
             });
             if !fed {
                 return Some(format!("the backup of task {} lacks task {}", link.to, link.from));
@@ -148,7 +149,7 @@ mod tests {
     use super::*;
     use crate::console::{replay_bytes, SECOND};
     use crate::files::{write_job, write_plan};
-    use crate::samples::{job, plan_of, with_ready, without_link, SAMPLE_1};
+    use crate::samples::{job, plan_of, with_ready, with_send, without_link, SAMPLE_1};
 
     fn fault_of(job: &Job, plan: &Plan, loss: Option<Loss>) -> Option<String> {
         let mut rows = vec![0; replay_bytes(job.tasks.len())];
@@ -203,6 +204,16 @@ mod tests {
         let plan = plan_of([[0, 0, 1, 5], [0, 4, 2, 9]]);
         let fault = fault_in(&job(), &plan, lost(0, 3), [1, 2, 9, 0, 2, 12]);
         assert!(fault.is_some_and(|text| text.contains("lacks")));
+    }
+
+    #[test]
+    fn an_input_sent_too_late_is_found() {
+        // The first primary's result is on node 1 at 6, and later by the send time of node 0.
+        let fault = |send: [u64; 3]| {
+            fault_in(&with_send(send), &plan_of(SAMPLE_1), lost(0, 5), [2, 0, 4, 1, 2, 12])
+        };
+        assert_eq!(fault([3, 1000, 1000]), None);
+        assert!(fault([4, 0, 0]).is_some_and(|text| text.contains("lacks")));
     }
 
     #[test]

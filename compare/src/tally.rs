@@ -2,6 +2,7 @@
 
 use std::fmt;
 
+use crate::files::NEWEST;
 use crate::refusal::{number_of, TOO_SOON, WORDS};
 use crate::trial::Function;
 
@@ -32,7 +33,8 @@ pub struct Tally {
     pub survived: u64,
     pub passed_newly: u64,
     pub planned_newly: u64,
-    pub passed_version_1: u64,
+    pub passed_version: [u64; NEWEST as usize],
+    pub planned_version: [u64; NEWEST as usize],
     pub passed_with_ready: u64,
     pub planned_later: u64,
     pub held_back: u64,
@@ -52,6 +54,11 @@ pub struct Tally {
     pub full_of_tasks: u64,
     pub full_of_links: u64,
     pub sequences_survived: u64,
+    pub planned_by_send: u64,
+    pub refused_by_send: u64,
+    pub replayed_by_send: u64,
+    pub asked_by_send: u64,
+    pub planned_forgetfully: u64,
 }
 
 /// Something counted: how often it was met, in words, and how often a run of the default count has
@@ -105,7 +112,6 @@ impl Tally {
             (self.passed_newly, 200, "passed plans that rule E of document 01 refused"),
             (self.planned_newly, 100, "planned jobs whose plan rule E of document 01 would move"),
             // Request (ii).
-            (self.passed_version_1, 2_000, "passed plans of version 1 jobs"),
             (self.passed_with_ready, 2_000, "passed plans of jobs with ready times above 0"),
             (self.planned_later, 300, "planned jobs whose plan the ready times moved"),
             (self.results[0][usize::from(TOO_SOON)], 5_000, "plans refused as too soon"),
@@ -113,8 +119,21 @@ impl Tally {
             (self.backup_sooner, 250, "replays without loss with a backup run before ready"),
             (self.later_version, 3_000, "calls with a job of a later version, refused 2 at 0"),
         ];
-        let counts = counts.into_iter().chain(self.sequence_counts());
+        let counts = counts.into_iter().chain(self.version_counts());
+        let counts = counts.chain(self.sequence_counts()).chain(self.send_counts());
         counts.map(|(met, least, words)| Count { met, words, least })
+    }
+
+    fn version_counts(&self) -> [(u64, u64, &'static str); 2 * NEWEST as usize] {
+        let ([p1, p2, p3], [q1, q2, q3]) = (self.passed_version, self.planned_version);
+        [
+            (p1, 2_000, "passed plans of version 1 jobs"),
+            (p2, 2_000, "passed plans of version 2 jobs"),
+            (p3, 2_000, "passed plans of version 3 jobs"),
+            (q1, 500, "planned jobs of version 1"),
+            (q2, 500, "planned jobs of version 2"),
+            (q3, 500, "planned jobs of version 3"),
+        ]
     }
 
     /// Request (iii).
@@ -134,6 +153,17 @@ impl Tally {
             (self.full_of_tasks, 20, "jobs filled to 64 tasks"),
             (self.full_of_links, 20, "jobs filled to 512 links"),
             (self.sequences_survived, 100, "plans held to demand 3 at the end of a sequence"),
+        ]
+    }
+
+    /// Request (iv): what would be otherwise with all send times 0.
+    fn send_counts(&self) -> [(u64, u64, &'static str); 5] {
+        [
+            (self.planned_by_send, 200, "planned jobs whose plan the send times moved"),
+            (self.refused_by_send, 250, "plans refused that pass with send times 0"),
+            (self.replayed_by_send, 8_000, "replays that go otherwise with send times 0"),
+            (self.asked_by_send, 400, "asked places that the send times moved"),
+            (self.planned_forgetfully, 150, "planned jobs that the forgetful shortcut would move"),
         ]
     }
 }

@@ -3,15 +3,6 @@
 
 #include <string.h>
 
-/* The usual job with one number changed, and the planner's plan of it. */
-static void write_planned(enum field field, uint32_t number)
-{
-    write_files(field, number);
-    expect(PLAN, ROOM, SEQOPCHI_DONE, 0, 0);
-    plan.length = SEQOPCHI_PLAN_BYTES(numbers[TASKS]);
-    memcpy(plan.data, out, plan.length);
-}
-
 static int is_marked(const void *output, size_t length)
 {
     const uint8_t *bytes = output;
@@ -74,7 +65,7 @@ static void expect_past(enum field field, uint32_t past)
 
 static void check_limit(const struct limit *l)
 {
-    if (l->field == NEW_READY && version < READY_VERSION)
+    if (version < since[l->field])
         return;
     about(l->macro, field_names[l->field], l->limit);
     write_planned(l->field, l->limit);
@@ -150,7 +141,9 @@ static void check_task_lengths(void)
  * tasks. The job is full then, but they read. */
 static void check_longest(void)
 {
-    static const size_t longest[SEQOPCHI_NEWEST_JOB_VERSION + 1] = { 0, 584, 588 };
+    static const size_t longest[SEQOPCHI_NEWEST_JOB_VERSION + 1] = {
+        0, 584, 588, 588
+    };
 
     write_planned(TASKS, SEQOPCHI_MAX_TASKS);
     numbers[NODES] = SEQOPCHI_MAX_NODES;

@@ -11,13 +11,15 @@ static const char *const call_names[CALLS] = {
 };
 
 const char *const field_names[FIELDS] = {
-    "version", "nodes", "detect time", "tasks", "ready time", "deadline", "run time",
-    "links", "from", "to", "delay", "version of the plan", "rows", "primary's node",
-    "primary's start", "backup's node", "backup's start", "new ready time",
-    "new deadline", "new run time", "new links", "new from", "new delay",
-    "new primary's node", "new primary's start", "new backup's node",
+    "version", "nodes", "detect time", "send time", "tasks", "ready time", "deadline",
+    "run time", "links", "from", "to", "delay", "version of the plan", "rows",
+    "primary's node", "primary's start", "backup's node", "backup's start",
+    "new ready time", "new deadline", "new run time", "new links", "new from",
+    "new delay", "new primary's node", "new primary's start", "new backup's node",
     "new backup's start"
 };
+
+const uint32_t since[FIELDS] = { [SEND] = 3, [READY] = 2, [NEW_READY] = 2 };
 
 const uint32_t usual[FIELDS] = {
     [NODES] = 3, [DETECT] = 1, [TASKS] = 40, [DEADLINE] = 9999, [RUN] = 4,
@@ -65,6 +67,13 @@ void put(struct file *f, enum field field, uint32_t number)
     set_number(f, field, number);
 }
 
+/* The number of that kind, where the version has it. */
+static void put_field(struct file *f, enum field field)
+{
+    if (numbers[VERSION] >= since[field])
+        put(f, field, numbers[field]);
+}
+
 /* Fewer links than asked for where there are fewer pairs of tasks. */
 static void write_links(void)
 {
@@ -88,14 +97,14 @@ void write_job(void)
     put(&job, VERSION, numbers[VERSION]);
     put(&job, NODES, numbers[NODES]);
     for (uint32_t node = 0; node < numbers[NODES]; node++)
-        put(&job, DETECT, numbers[DETECT]);
+        for (int field = DETECT; field <= SEND; field++)
+            put_field(&job, field);
     put(&job, TASKS, numbers[TASKS]);
     for (uint32_t t = 0; t < numbers[TASKS]; t++) {
-        if (numbers[VERSION] >= READY_VERSION)
-            put(&job, READY, numbers[READY]);
-        put(&job, DEADLINE, numbers[DEADLINE]);
+        put_field(&job, READY);
+        put_field(&job, DEADLINE);
         for (uint32_t node = 0; node < numbers[NODES]; node++)
-            put(&job, RUN, numbers[RUN]);
+            put_field(&job, RUN);
     }
     write_links();
 }
@@ -114,11 +123,10 @@ static void write_plan(void)
 static void write_description(struct file *f)
 {
     f->length = 0;
-    if (numbers[VERSION] >= READY_VERSION)
-        put(f, NEW_READY, numbers[NEW_READY]);
-    put(f, NEW_DEADLINE, numbers[NEW_DEADLINE]);
+    put_field(f, NEW_READY);
+    put_field(f, NEW_DEADLINE);
     for (uint32_t node = 0; node < numbers[NODES]; node++)
-        put(f, NEW_RUN, numbers[NEW_RUN]);
+        put_field(f, NEW_RUN);
     put(f, NEW_LINKS, numbers[NEW_LINKS]);
     for (uint32_t from = 0; from < numbers[NEW_LINKS]; from++) {
         put(f, NEW_FROM, from);
@@ -142,6 +150,22 @@ void write_files(enum field field, uint32_t number)
     write_job();
     write_plan();
     write_task();
+}
+
+void write_planned(enum field field, uint32_t number)
+{
+    write_files(field, number);
+    expect(PLAN, ROOM, SEQOPCHI_DONE, 0, 0);
+    plan.length = SEQOPCHI_PLAN_BYTES(numbers[TASKS]);
+    memcpy(plan.data, out, plan.length);
+}
+
+void write_two_tasks(const uint32_t rows[8])
+{
+    write_files(TASKS, 2);
+    plan.length = SEQOPCHI_PLAN_BYTES(0);
+    for (int k = 0; k < 8; k++)
+        put(&plan, PRIMARY + k % 4, rows[k]);
 }
 
 uint64_t result_of(enum call call, size_t out_len)

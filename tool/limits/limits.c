@@ -6,7 +6,9 @@
 #include <string.h>
 
 /* The longest job of each version, from the papers. */
-static const size_t longest[SEQOPCHI_NEWEST_JOB_VERSION + 1] = { 0, 10576, 10832 };
+static const size_t longest[SEQOPCHI_NEWEST_JOB_VERSION + 1] = {
+    0, 10576, 10832, 10896
+};
 
 /* Both files read well: judge, ask and commit get to the rules, the others lack
  * room. */
@@ -56,6 +58,7 @@ static const struct limit limits[] = {
     AT_MOST(SEQOPCHI_MAX_TASKS, TASKS, COUNT),
     AT_MOST(SEQOPCHI_MAX_LINKS, LINKS, COUNT),
     AT_MOST(SEQOPCHI_MAX_DETECT, DETECT, VALUE),
+    AT_MOST(SEQOPCHI_MAX_SEND, SEND, VALUE),
     AT_MOST(SEQOPCHI_MAX_TIME, READY, VALUE),
     AT_LEAST(SEQOPCHI_MIN_DEADLINE, DEADLINE, VALUE),
     AT_MOST(SEQOPCHI_MAX_TIME, DEADLINE, VALUE),
@@ -70,7 +73,7 @@ static void check_limit(const struct limit *l)
 {
     struct file *f = l->field < PLAN_VERSION ? &job : &plan;
 
-    if (l->field == READY && version < READY_VERSION)
+    if (version < since[l->field])
         return;
     about(l->macro, field_names[l->field], l->limit);
     write_files(l->field, l->limit);
@@ -201,10 +204,7 @@ static const struct rule { unsigned number, first, second; uint32_t rows[8]; } r
 static void write_rule(const struct rule *r)
 {
     about("enum seqopchi_refusal", "rule", r->number);
-    write_files(TASKS, 2);
-    plan.length = SEQOPCHI_PLAN_BYTES(0);
-    for (int k = 0; k < 8; k++)
-        put(&plan, PRIMARY + k % 4, r->rows[k]);
+    write_two_tasks(r->rows);
 }
 
 static void check_rules(void)
@@ -283,6 +283,14 @@ static void check_ready(uint32_t ready, uint8_t primary, uint8_t backup)
     check(out[SEQOPCHI_PLAN_BYTES(0) + 4] == ready, "another start of the primary");
 }
 
+static void check_readiness(void)
+{
+    check_too_soon();
+    check_ready(2, SEQOPCHI_FINISHED, SEQOPCHI_NOT_STARTED);
+    check_ready(3, SEQOPCHI_NOT_STARTED, SEQOPCHI_FINISHED);
+    check_ready(8, SEQOPCHI_NOT_STARTED, SEQOPCHI_FINISHED);
+}
+
 static void check_version(void)
 {
     for (size_t i = 0; i < COUNT_OF(limits); i++)
@@ -294,12 +302,10 @@ static void check_version(void)
     check_outcomes(3, SEQOPCHI_CUT, SEQOPCHI_FINISHED);
     check_outcomes(4, SEQOPCHI_FINISHED, SEQOPCHI_NOT_STARTED);
     check_asking();
-    if (version < READY_VERSION)
-        return;
-    check_too_soon();
-    check_ready(2, SEQOPCHI_FINISHED, SEQOPCHI_NOT_STARTED);
-    check_ready(3, SEQOPCHI_NOT_STARTED, SEQOPCHI_FINISHED);
-    check_ready(8, SEQOPCHI_NOT_STARTED, SEQOPCHI_FINISHED);
+    if (version >= since[READY])
+        check_readiness();
+    if (version >= since[SEND])
+        check_sending();
 }
 
 int main(void)

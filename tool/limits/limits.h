@@ -9,19 +9,19 @@
 #define COUNT_OF(array) (sizeof (array) / sizeof (array)[0])
 
 #define OLDEST_JOB_VERSION 1
-#define READY_VERSION 2 /* the first with ready times */
 
 enum call { JUDGE, PLAN, REPLAY, LOSS, ASK, COMMIT, CALLS };
 
 /* The numbers of a job, of a plan, of a description and of a booking's place. */
 enum field {
-    VERSION, NODES, DETECT, TASKS, READY, DEADLINE, RUN, LINKS, FROM, TO, DELAY,
+    VERSION, NODES, DETECT, SEND, TASKS, READY, DEADLINE, RUN, LINKS, FROM, TO, DELAY,
     PLAN_VERSION, ROWS, PRIMARY, PRIMARY_START, BACKUP, BACKUP_START,
     NEW_READY, NEW_DEADLINE, NEW_RUN, NEW_LINKS, NEW_FROM, NEW_DELAY,
     NEW_PRIMARY, NEW_PRIMARY_START, NEW_BACKUP, NEW_BACKUP_START, FIELDS
 };
 
 extern const char *const field_names[FIELDS];
+extern const uint32_t since[FIELDS]; /* the first job version that has it */
 
 /* Well inside all limits, with tasks enough for the most links. The rows of the plan
  * are alike and their backups early, so that a rule refuses a plan that reads well. */
@@ -52,6 +52,10 @@ void write_job(void);
 void write_task(void); /* and the booking */
 /* The usual files with one number changed. */
 void write_files(enum field field, uint32_t number);
+/* The same, and the planner's plan of the job. */
+void write_planned(enum field field, uint32_t number);
+/* Two linked tasks and a plan: node and start of primary and backup of each. */
+void write_two_tasks(const uint32_t rows[8]);
 
 /* One call, with so many bytes of out. */
 uint64_t result_of(enum call call, size_t out_len);
@@ -61,5 +65,8 @@ void expect(enum call call, size_t out_len, unsigned number,
 
 /* Descriptions and bookings: limits, lengths, and what ask and commit write. */
 void check_asking(void);
+
+/* Send times, in a version that has them. */
+void check_sending(void);
 
 #endif

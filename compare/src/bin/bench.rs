@@ -130,6 +130,7 @@ fn cases() -> Vec<Case> {
     cases.extend([8, 16, 32, 64].map(|tasks| case("by tasks", 1, 8, tasks, 3 * tasks)));
     cases.extend([0, 128, 256, 512].map(|links| case("by links", 1, 16, 64, links)));
     cases.push(case("maximum, version 2", 2, 16, 64, 512));
+    cases.push(case("maximum, version 3", 3, 16, 64, 512));
     cases
 }
 

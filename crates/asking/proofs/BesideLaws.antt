@@ -1,7 +1,7 @@
 -- A new task beside a plan: the plan's copies are stored task by task, and the task is placed as the planner places it.
 use Prim.Native.Nat.{ℕ, _+_, _≤_, _<_}
 use mathlib.Core.List.{List}
-use mathlib.Core.Path.{_≡_, refl, sym, _∙_, ap, subst}
+use mathlib.Core.Path.{_≡_, sym, _∙_, ap, subst}
 use lib.ListN.{getD, replicate}
 use native.Mathlib.Numerals.{add-one}
 use native.Mathlib.Omega.{arith}
@@ -31,21 +31,21 @@ use Rattle.judge.proofs.TaskLaws.{copy-fits}
 use Rattle.planner.specs.declared.task.Pair.{Pair}
 use Rattle.planner.specs.declared.task.Placing.{Placing}
 use Rattle.planner.specs.declared.task.Want.{Want}
-use Rattle.planner.specs.Senders.{Into, Sendable, Sent}
-use Rattle.planner.specs.Tasks.{pairRow, attempted, wantOf, Wanted, Bookable, Booked, Chainable, ChainedUp}
+use Rattle.planner.specs.Senders.{Into, Results, Sendable, Sent}
+use Rattle.planner.specs.Tasks.{pairRow, attempted, wantOf, Wanted, Bookable, Booked, Departing, departed, ChainedUp}
 use Rattle.planner.proofs.KeepsLaws.{Found}
 use Rattle.planner.proofs.SenderLaws.{sendable}
-use Rattle.planner.proofs.SentLaws.{sent-into, into-few, into-sending, into-faults}
-use Rattle.planner.proofs.StoreLaws.{beside-start, pair-bookable, pair-chainable, booked-row, booked-beside}
+use Rattle.planner.proofs.SentLaws.{outOf, sent-into, into-few, into-sending, into-faults}
+use Rattle.planner.proofs.StoreLaws.{beside-start, pair-bookable, pair-departing, booked-row, booked-beside}
 use Rattle.planner.proofs.WantLaws.{Told, asked, told}
 use Rattle.asking.specs.Calls.{Asking}
 use Rattle.asking.specs.Merge.{mergedLinks, Merged}
 use Rattle.asking.specs.Beside.{PlacesFit, Takeable, Taken, Storing, StoredTo, placeNew}
 
-pub book-start : (job : Job) (plan : Plan) (before last : List ℕ) → before ≡ replicate copyCount 0 → last ≡ replicate maxNodes 0
-    → StoredTo job plan 0 emptyCopies before last
-book-start job plan before last b l =
-    record { is = empty-rows ∙ sym (grow-start blankRow (plannedRow job plan)); beside = beside-start job before last b l }
+pub book-start : (job : Job) (plan : Plan) (leave before last : List ℕ) → leave ≡ replicate copyCount 0 → before ≡ replicate copyCount 0
+    → last ≡ replicate maxNodes 0 → StoredTo job plan 0 emptyCopies leave before last
+book-start job plan leave before last o b l =
+    record { is = empty-rows ∙ sym (grow-start blankRow (plannedRow job plan)); beside = beside-start job leave before last o b l }
 
 -- task j of the first n
 module _ (job : Job) (plan : Plan) (into next from delay : List ℕ) (n : ℕ) (can : Storing job plan into next from delay n) (j : ℕ) (below : j < n) where
@@ -61,17 +61,17 @@ module _ (job : Job) (plan : Plan) (into next from delay : List ℕ) (n : ℕ) (
   by-links : Into job next from delay j (getD into j 0)
   by-links = sent-into job _ _ _ _ (can .sent) j (omega (arith, task-of, can .sound .tasks-most))
 
-  module _ (cs : Copies) (before last : List ℕ) (so-far : StoredTo job plan j cs before last) where
-    pub takeable : Takeable next from delay cs (getD into j 0) (task job j) (place plan j)
+  module _ (cs : Copies) (leave before last : List ℕ) (so-far : StoredTo job plan j cs leave before last) where
+    pub takeable : Takeable next from delay (outOf cs leave) (getD into j 0) (task job j) (place plan j)
     takeable =
         record {
           primary = copy-fits job (can .sound) j _ _ task-of (fit .primary-node) (fit .primary-start);
           backup = copy-fits job (can .sound) j _ _ task-of (fit .backup-node) (fit .backup-start);
-          sending = into-sending job _ _ _ j _ by-links (can .sound) j cs before last (so-far .beside);
+          sending = into-sending job _ _ _ j _ by-links (can .sound) j cs leave before last (so-far .beside);
         }
 
     -- its copies are x
-    module _ (x : Pair) (taken : Taken next from delay cs (getD into j 0) (task job j) (place plan j) x) where
+    module _ (x : Pair) (taken : Taken next from delay (outOf cs leave) (getD into j 0) (task job j) (place plan j) x) where
       p-found : Found job (x .primary)
       p-found =
           subst (Found job) (sym (taken .primary))
@@ -83,13 +83,15 @@ module _ (job : Job) (plan : Plan) (into next from delay : List ℕ) (n : ℕ) (
           (record { node = fit .backup-node; lasts = omega (arith, fit .backup-able); ends = takeable .backup .ends })
 
       faults-are : faultSet job (rowOf cs) j (x .primary) ≡ has (x .set)
-      faults-are = sym (into-faults job _ _ _ j _ by-links cs (x .primary) (x .set) (taken .set))
+      faults-are =
+          sym (into-faults job _ _ _ j _ by-links j cs leave (so-far .beside .leaving) (λ k p e. omega (arith, can .sound .rise k p))
+          (x .primary) (x .set) (taken .set))
 
       pub bookable : Bookable cs j x
-      bookable = pair-bookable job j cs before last (can .sound) (so-far .beside) task-of x
+      bookable = pair-bookable job j cs leave before last (can .sound) (so-far .beside) task-of x
 
-      pub chainable : Chainable j x
-      chainable = pair-chainable job j cs before last (can .sound) (so-far .beside) task-of x p-found q-found
+      pub departing : Departing (job .nodes) j x
+      departing = pair-departing job j cs leave before last (can .sound) (so-far .beside) task-of x p-found q-found
 
       planned-row : pairRow x ≡ plannedRow job plan (rowOf cs) j
       unfolding plannedRow row copy
@@ -102,21 +104,22 @@ module _ (job : Job) (plan : Plan) (into next from delay : List ℕ) (n : ℕ) (
           ∙ ap (λ t. put t j (plannedRow job plan t j)) (so-far .is)
           ∙ rw add-one (sym (grow-more blankRow (plannedRow job plan) j))
 
-      pub book-more : (r : Copies) → Booked j x cs r → (before' last' : List ℕ) → ChainedUp j x last before last' before'
-          → StoredTo job plan (j + 1) r before' last'
-      book-more r b before' last' up =
+      pub book-more : (r : Copies) → Booked j x cs r → (leave' before' last' : List ℕ) → leave' ≡ departed (job .nodes) j x leave
+          → ChainedUp j x last before last' before' → StoredTo job plan (j + 1) r leave' before' last'
+      book-more r b leave' before' last' gone up =
           record {
             is = booked-row j x cs r b ∙ next-rows;
-            beside = booked-beside job j cs before last (can .sound) (so-far .beside) task-of x p-found q-found faults-are r b before' last' up;
+            beside = booked-beside job j cs leave before last (can .sound) (so-far .beside) task-of x p-found q-found faults-are r b
+                leave' before' last' gone up;
           }
 
 -- the same for another task that is the same one
-module _ (next from delay : List ℕ) (cs : Copies) (i : ℕ) (t u : Task) (same : t ≡ u) (x : Place) where
-  takeable-as : Takeable next from delay cs i t x → Takeable next from delay cs i u x
-  takeable-as h = subst (λ v. Takeable next from delay cs i v x) same h
+module _ (next from delay : List ℕ) (rs : Results) (i : ℕ) (t u : Task) (same : t ≡ u) (x : Place) where
+  takeable-as : Takeable next from delay rs i t x → Takeable next from delay rs i u x
+  takeable-as h = subst (λ v. Takeable next from delay rs i v x) same h
 
-  taken-as : (r : Pair) → Taken next from delay cs i t x r → Taken next from delay cs i u x r
-  taken-as r h = subst (λ v. Taken next from delay cs i v x r) same h
+  taken-as : (r : Pair) → Taken next from delay rs i t x r → Taken next from delay rs i u x r
+  taken-as r h = subst (λ v. Taken next from delay rs i v x r) same h
 
 -- the longer job: the tasks of the plan are the job's own, and behind them is the new one
 module _ (job : Job) (plan : Plan) (d : Description) (ok : Asking job plan d)
@@ -162,38 +165,41 @@ module _ (job : Job) (plan : Plan) (d : Description) (ok : Asking job plan d)
       same-task : task big j ≡ task job j
       same-task = task-old job d (ok .room) j below
 
-      module _ (cs : Copies) (before last : List ℕ) (so-far : StoredTo big plan j cs before last) where
-        pub old-takeable : Takeable next from delay cs (getD into j 0) (task job j) (place plan j)
-        old-takeable = takeable-as _ _ _ _ _ _ _ same-task _ (takeable big plan _ _ _ _ _ storing j below cs before last so-far)
+      module _ (cs : Copies) (leave before last : List ℕ) (so-far : StoredTo big plan j cs leave before last) where
+        pub old-takeable : Takeable next from delay (outOf cs leave) (getD into j 0) (task job j) (place plan j)
+        old-takeable = takeable-as _ _ _ _ _ _ _ same-task _ (takeable big plan _ _ _ _ _ storing j below cs leave before last so-far)
 
-        module _ (x : Pair) (taken : Taken next from delay cs (getD into j 0) (task job j) (place plan j) x) where
-          big-taken : Taken next from delay cs (getD into j 0) (task big j) (place plan j) x
+        module _ (x : Pair) (taken : Taken next from delay (outOf cs leave) (getD into j 0) (task job j) (place plan j) x) where
+          big-taken : Taken next from delay (outOf cs leave) (getD into j 0) (task big j) (place plan j) x
           big-taken = taken-as _ _ _ _ _ _ _ (sym same-task) _ x taken
 
           pub old-bookable : Bookable cs j x
-          old-bookable = bookable big plan _ _ _ _ _ storing j below cs before last so-far x big-taken
+          old-bookable = bookable big plan _ _ _ _ _ storing j below cs leave before last so-far x big-taken
 
-          pub old-chainable : Chainable j x
-          old-chainable = chainable big plan _ _ _ _ _ storing j below cs before last so-far x big-taken
+          pub old-departing : Departing (job .nodes) j x
+          unfolding longerJob
+          old-departing = departing big plan _ _ _ _ _ storing j below cs leave before last so-far x big-taken
 
-          pub old-more : (r : Copies) → Booked j x cs r → (before' last' : List ℕ) → ChainedUp j x last before last' before'
-              → StoredTo big plan (j + 1) r before' last'
-          old-more = book-more big plan _ _ _ _ _ storing j below cs before last so-far x big-taken
+          pub old-more : (r : Copies) → Booked j x cs r → (leave' before' last' : List ℕ) → leave' ≡ departed (job .nodes) j x leave
+              → ChainedUp j x last before last' before' → StoredTo big plan (j + 1) r leave' before' last'
+          unfolding longerJob
+          old-more = book-more big plan _ _ _ _ _ storing j below cs leave before last so-far x big-taken
 
     -- the new task, beside all of the plan
-    module _ (j : ℕ) (cs : Copies) (before last : List ℕ) (so-far : StoredTo big plan j cs before last) (within : j ≤ tasks job) (all : tasks job ≤ j)
-        (want : Want) (asks : want ≡ wantOf (tasks job) (d .task) (job .nodes) (nodes job) (getD into (tasks job) 0)) where
-      stored : StoredTo big plan (tasks job) cs before last
-      stored = let e : j ≡ tasks job = omega arith in subst (λ m. StoredTo big plan m cs before last) e so-far
+    module _ (j : ℕ) (cs : Copies) (leave before last : List ℕ) (so-far : StoredTo big plan j cs leave before last)
+        (within : j ≤ tasks job) (all : tasks job ≤ j) (want : Want)
+        (asks : want ≡ wantOf (tasks job) (d .task) (job .nodes) (nodes job) (getD into (tasks job) 0)) where
+      stored : StoredTo big plan (tasks job) cs leave before last
+      stored = let e : j ≡ tasks job = omega arith in subst (λ m. StoredTo big plan m cs leave before last) e so-far
 
       want-is : want ≡ wantOf (tasks job) (task big (tasks job)) (big .nodes) (nodes big) (getD into (tasks job) 0)
       unfolding longerJob
       want-is = asks ∙ ap (λ t. wantOf (tasks job) t (job .nodes) (nodes job) (getD into (tasks job) 0)) (sym (task-new job d (ok .room)))
 
-      pub new-wanted : Wanted next from delay cs before last want
-      new-wanted = asked big into _ _ _ _ _ _ _ big-sound big-sent (stored .beside) new-of want want-is
+      pub new-wanted : Wanted next from delay cs leave before last want
+      new-wanted = asked big into _ _ _ _ _ _ _ _ big-sound big-sent (stored .beside) new-of want want-is
 
-      pub new-told : (a : Placing) → Told next from delay cs before last want a → attempted a ≡ placeNew job plan d
+      pub new-told : (a : Placing) → Told next from delay cs leave before last want a → attempted a ≡ placeNew job plan d
       new-told a f =
-          told big into _ _ _ _ _ _ _ big-sound big-sent (stored .beside) new-of want want-is a f
+          told big into _ _ _ _ _ _ _ _ big-sound big-sent (stored .beside) new-of want want-is a f
           ∙ ap (λ t. placeTask big (anywhere (tasks job)) (tasks job) t (tasks job)) (stored .is)

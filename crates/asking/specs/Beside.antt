@@ -17,7 +17,7 @@ use Rattle.copies.specs.declared.table.Copies.{Copies}
 use Rattle.copies.specs.Table.{rowOf}
 use Rattle.judge.specs.Tasks.{CopyFits, copyOn}
 use Rattle.planner.specs.declared.task.Pair.{Pair}
-use Rattle.planner.specs.Senders.{Sent, Sending}
+use Rattle.planner.specs.Senders.{Results, Sent, Sending}
 use Rattle.planner.specs.Faults.{Faulted}
 use Rattle.planner.specs.Tasks.{Beside}
 
@@ -26,16 +26,16 @@ abbrev pub PlacesFit : Job → Plan → ℕ → Type 0
 PlacesFit job plan n = (j : ℕ) → j < n → SoundPlace (nodes job) (task job j .run) (place plan j)
 
 -- both copies of a place can be taken, and the links to its task walked
-pub record Takeable (next from delay : List ℕ) (cs : Copies) (into : ℕ) (t : Task) (x : Place) : Type 0 where
+pub record Takeable (next from delay : List ℕ) (rs : Results) (into : ℕ) (t : Task) (x : Place) : Type 0 where
   pub primary : CopyFits t (x .«primary_node») (x .«primary_start»)
   pub backup : CopyFits t (x .«backup_node») (x .«backup_start»)
-  pub sending : Sending next from delay cs into
+  pub sending : Sending next from delay rs into
 
 -- they are taken, with the task's fault set
-pub record Taken (next from delay : List ℕ) (cs : Copies) (into : ℕ) (t : Task) (x : Place) (r : Pair) : Type 0 where
+pub record Taken (next from delay : List ℕ) (rs : Results) (into : ℕ) (t : Task) (x : Place) (r : Pair) : Type 0 where
   pub primary : r .primary ≡ copyOn t (x .«primary_node») (x .«primary_start»)
   pub backup : r .backup ≡ copyOn t (x .«backup_node») (x .«backup_start»)
-  pub set : Faulted next from delay cs into (r .primary) (r .set)
+  pub set : Faulted next from delay rs into (r .primary) (r .set)
 
 -- what the table of a plan's first n tasks rests on: the job's links stand by receiver
 pub record Storing (job : Job) (plan : Plan) (into next from delay : List ℕ) (n : ℕ) : Type 0 where
@@ -45,9 +45,9 @@ pub record Storing (job : Job) (plan : Plan) (into next from delay : List ℕ) (
   pub fit : PlacesFit job plan n
 
 -- the table has their rows, and the planner can place a task beside it
-pub record StoredTo (job : Job) (plan : Plan) (n : ℕ) (cs : Copies) (before last : List ℕ) : Type 0 where
+pub record StoredTo (job : Job) (plan : Plan) (n : ℕ) (cs : Copies) (leave before last : List ℕ) : Type 0 where
   pub is : rowOf cs ≡ rowsTo job plan n
-  pub beside : Beside job n cs before last
+  pub beside : Beside job n cs leave before last
 
 -- the planner's step for the longer job's last task, beside the plan
 abbrev pub placeNew : Job → Plan → Description → Attempt Row

@@ -10,13 +10,14 @@ use planner::task::Want;
 use planner::task::book;
 use planner::task::chain_up;
 use planner::task::place_task;
+use planner::task::send_off;
 use reader::job::Job;
 use reader::job::Task;
 use reader::plan::Place;
 use reader::plan::Plan;
 use rules::Description;
 ghost use mathlib.Core.Path.{_≡_};
-ghost use Rattle.copies.specs.Table.{table};
+ghost use Rattle.planner.specs.Senders.{results};
 ghost use Rattle.planner.specs.Tasks.{attempted};
 ghost use Rattle.asking.specs.Calls.{Asking};
 ghost use Rattle.asking.specs.Beside.{Takeable, Taken, placeNew};
@@ -27,20 +28,20 @@ fn pair_at<'l, 'c>(
     from: &'l [u32; Job::MAX_LINKS],
     delay: &'l [u32; Job::MAX_LINKS],
     node: &'c [u32; Copies::COUNT],
-    start: &'c [u32; Copies::COUNT],
     finish: &'c [u32; Copies::COUNT],
+    leave: &'c [u32; Copies::COUNT],
     sets: &'c [u32; Copies::COUNT],
     into: usize,
     task: Task,
     place: Place,
 ) -> Pair
-    requires { ⌜ Takeable (now next) (now from) (now delay) (table (now node) (now start) (now finish) (now sets)) into task place ⌝ }
+    requires { ⌜ Takeable (now next) (now from) (now delay) (results (now node) (now finish) (now leave) (now sets)) into task place ⌝ }
     ensures { λ r. ⌜ Taken (now (next .entry)) (now (from .entry)) (now (delay .entry))
-        (table (now (node .entry)) (now (start .entry)) (now (finish .entry)) (now (sets .entry))) into task place r ⌝ }
+        (results (now (node .entry)) (now (finish .entry)) (now (leave .entry)) (now (sets .entry))) into task place r ⌝ }
 {
     let primary = copy_of(task, place.primary_node, place.primary_start);
     let backup = copy_of(task, place.backup_node, place.backup_start);
-    let set = fault_set(next, from, delay, node, start, finish, sets, into, primary);
+    let set = fault_set(next, from, delay, node, finish, leave, sets, into, primary);
     Pair {
         primary,
         backup,
@@ -49,7 +50,8 @@ fn pair_at<'l, 'c>(
 }
 
 // The planner's own step for a new task beside the plan, with its primary anywhere. Of the longer job it makes the links alone.
-// The nodes, starts and finishes of the copies are `on`, `go` and `end`: each call stands on one line so.
+// The nodes, starts and finishes of the copies are `on`, `go` and `end`, and their results leave at `off`: short names for long calls. In the loop the
+// job is read by its parts, or it would be copied once more.
 pub fn place_new(job: Job, plan: Plan, d: Description) -> Placing
     requires { ⌜ Asking job plan d ⌝ }
     ensures { λ r. ⌜ attempted r ≡ placeNew job plan d ⌝ }
@@ -68,21 +70,37 @@ pub fn place_new(job: Job, plan: Plan, d: Description) -> Placing
     let mut on = [0u32; Copies::COUNT];
     let mut go = [0u32; Copies::COUNT];
     let mut end = [0u32; Copies::COUNT];
+    let mut off = [0u32; Copies::COUNT];
     let mut set = [0u32; Copies::COUNT];
     let mut prev = [0usize; Copies::COUNT];
     let mut last = [0usize; Job::MAX_NODES];
     let n = job.task_count as usize;
+    let tasks = job.tasks;
+    let nodes = job.nodes;
     let mut j: usize = 0;
     while j < n {
         let at = into[j] as usize;
-        let task = job.tasks[j];
+        let task = tasks[j];
         let place = plan.places[j];
-        let pair = pair_at(&next, &from, &lag, &on, &go, &end, &set, at, task, place);
+        let pair = pair_at(&next, &from, &lag, &on, &end, &off, &set, at, task, place);
         book(&mut on, &mut go, &mut end, &mut set, j, pair);
+        send_off(&mut off, nodes, j, pair);
         chain_up(&mut prev, &mut last, j, pair);
         j += 1;
     }
     let count = job.node_count as usize;
-    let want = Want::of(n, d.task, job.nodes, count, into[n] as usize);
-    place_task(&next, &from, &lag, &on, &go, &end, &set, &prev, &last, want)
+    let want = Want::of(n, d.task, nodes, count, into[n] as usize);
+    place_task(
+        &next,
+        &from,
+        &lag,
+        &on,
+        &go,
+        &end,
+        &off,
+        &set,
+        &prev,
+        &last,
+        want,
+    )
 }

@@ -1,8 +1,19 @@
-// When the result of a copy arrives at another.
+// When the result of a copy is on each node.
+use crate::table::Copies;
+use rules::Copy;
 ghost use mathlib.Core.Bool.{cond};
 ghost use mathlib.Core.Path.{_≡_};
-ghost use Prim.Native.Nat.{_+_, max};
-ghost use Rattle.copies.specs.Arrival.{delayOf, inTimeOf, SumFits};
+ghost use Prim.Native.Nat.{_<_, max};
+ghost use lib.ListN.{getD};
+ghost use Rattle.copies.specs.Arrival.{arrivalOf, comes, resultAt, SumFits};
+ghost use Rattle.copies.specs.Table.{copyCount};
+
+// A copy's result as it goes out by a link: on the copy's own node from its finish on, on every other from `away` on.
+pub struct Result {
+    pub node: u32,
+    pub here: u32,
+    pub away: u32,
+}
 
 pub fn later(a: u32, b: u32) -> u32
     ensures { λ r. ⌜ r ≡ max a b ⌝ }
@@ -17,25 +28,38 @@ pub fn pick(test: bool, a: u32, b: u32) -> u32
     if test { a } else { b }
 }
 
-// 0 on one node, else the link's delay.
-pub fn delay_between(delay: u32, from: u32, to: u32) -> u32
-    ensures { λ r. ⌜ r ≡ delayOf delay from to ⌝ }
+// From when the result is on node `to`.
+pub fn arrival(result: Result, to: u32) -> u32
+    ensures { λ r. ⌜ r ≡ arrivalOf result to ⌝ }
 {
-    if from == to { 0 } else { delay }
+    if result.node == to {
+        result.here
+    } else {
+        result.away
+    }
 }
 
-// Whether what finishes on one node is on another by the start there.
-pub fn arrives(delay: u32, from: u32, finish: u32, to: u32, start: u32) -> bool
-    requires { ⌜ SumFits finish delay ⌝ }
-    ensures { λ r. ⌜ r ≡ inTimeOf delay from finish to start ⌝ }
+// Whether it is there by the start of a copy.
+pub fn in_time(result: Result, copy: Copy) -> bool
+    ensures { λ r. ⌜ r ≡ comes result copy ⌝ }
 {
-    finish + delay_between(delay, from, to) <= start
+    arrival(result, copy.node) <= copy.start
 }
 
-// From when a copy on a node has one input more.
-pub fn ready_by(ready: u32, at: u32, delay: u32, from: u32, to: u32) -> u32
-    requires { ⌜ SumFits at delay ⌝ }
-    ensures { λ r. ⌜ r ≡ max ready (at + delayOf delay from to) ⌝ }
+// The result of entry k of the table, by a link of this delay; `leave` has for each entry when its result has left its node.
+pub fn result_at<'c>(
+    node: &'c [u32; Copies::COUNT],
+    finish: &'c [u32; Copies::COUNT],
+    leave: &'c [u32; Copies::COUNT],
+    delay: u32,
+    k: usize,
+) -> Result
+    requires { ⌜ (k < copyCount) × SumFits (getD (now leave) k 0) delay ⌝ }
+    ensures { λ r. ⌜ r ≡ resultAt (now (node .entry)) (now (finish .entry)) (now (leave .entry)) delay k ⌝ }
 {
-    later(ready, at + delay_between(delay, from, to))
+    Result {
+        node: node[k],
+        here: finish[k],
+        away: leave[k] + delay,
+    }
 }

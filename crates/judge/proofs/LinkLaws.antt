@@ -28,16 +28,17 @@ use Rattle.rules.specs.Copies.{inTime}
 use Rattle.rules.specs.Rules.{Row, strong, ruleD}
 use Rattle.rules.specs.Waits.{waitsForBoth}
 use Rattle.rules.specs.Judge.{firstLink}
+use Rattle.copies.specs.declared.arrival.Result.{Result}
 use Rattle.copies.specs.declared.table.Copies.{Copies}
 use Rattle.copies.specs.Sets.{has}
-use Rattle.copies.specs.Arrival.{SumFits, comes}
-use Rattle.copies.specs.Table.{entry, rowOf}
-use Rattle.copies.proofs.ArrivalLaws.{in-time-is}
+use Rattle.copies.specs.Arrival.{comes, resultOf, resultAt, SumFits}
+use Rattle.copies.specs.Table.{copyCount, entry, rowOf}
+use Rattle.copies.proofs.ArrivalLaws.{comes-is}
 use Rattle.copies.proofs.ListMore.{replicated}
 use Rattle.copies.proofs.SetLaws.{has-union, has-one, has-none}
 use Rattle.judge.specs.Notes.{nowhere, firstBroken, notedOf, seen}
 use Rattle.judge.specs.Parts.{byLinks}
-use Rattle.judge.specs.Links.{Timed, weakLink, WeakTo, sure, SureBut, LinksJudged}
+use Rattle.judge.specs.Links.{linked, Timed, weakLink, WeakTo, sure, SureBut, LinksJudged}
 use Rattle.judge.proofs.NoteLaws.{note-start, note-more, note-below, note-seen}
 use Rattle.judge.proofs.SetMore.{joins-unless, stays}
 
@@ -114,30 +115,35 @@ walk-start job cs into zeros =
       e = λ m p. absurd (not-suc-le-zero p);
     }
 
--- the sender's finishes at link k, which leads from task i
-module _ (list : List Link) (n : ℕ) (cs : Copies) (timed : Timed list n cs) (k : ℕ) (low : k < n) (i : ℕ) (ei : i ≡ getD list k noLink .from) where
-  pub primary-fits : (p : Copy) → p ≡ entry cs (2 * i) → SumFits (p .finish) (getD list k noLink .delay)
-  primary-fits p e = omega (arith, ap (λ (c : Copy). c .finish) (e ∙ ap (λ m. entry cs (2 * m)) ei), timed .primary k low)
+-- the sender's results at link k, which leads from task i
+module _ (list : List Link) (n : ℕ) (cs : Copies) (leave : List ℕ) (timed : Timed list n cs leave) (k : ℕ) (low : k < n)
+    (i : ℕ) (ei : i ≡ getD list k noLink .from) where
+  pub primary-fits : (2 * i < copyCount) × SumFits (getD leave (2 * i) 0) (getD list k noLink .delay)
+  primary-fits = (omega (arith, timed .from k low), rw ei (timed .primary-fits k low))
 
-  pub backup-fits : (b : Copy) → b ≡ entry cs (2 * i + 1) → SumFits (b .finish) (getD list k noLink .delay)
-  backup-fits b e = omega (arith, ap (λ (c : Copy). c .finish) (e ∙ ap (λ m. entry cs (2 * m + 1)) ei), timed .backup k low)
+  pub backup-fits : (2 * i + 1 < copyCount) × SumFits (getD leave (2 * i + 1) 0) (getD list k noLink .delay)
+  backup-fits = (omega (arith, timed .from k low), rw ei (timed .backup-fits k low))
 
 -- link k, between tasks i and j
-module _ (job : Job) (cs : Copies) (timed : Timed (job .links) (links job) cs) (k : ℕ) (low : k < links job)
-    (i j : ℕ) (ei : i ≡ link job k .from) (ej : j ≡ link job k .to) where
-  abbrev arrived : Copy → Copy → Bool
-  arrived = comes (link job k .delay)
+module _ (list : List Link) (n : ℕ) (cs : Copies) (leave : List ℕ) (timed : Timed list n cs leave) (k : ℕ) (low : k < n)
+    (i j : ℕ) (ei : i ≡ getD list k noLink .from) (ej : j ≡ getD list k noLink .to) where
+  abbrev job : Job
+  job = linked (timed .job) list n
 
-  -- between entries m i and n j
-  arrival : (m n : ℕ → ℕ) (c d : Copy) (r : Bool) → c ≡ entry cs (m i) → d ≡ entry cs (n j) → r ≡ arrived c d
+  abbrev result : ℕ → Result
+  result = resultAt (cs .node) (cs .finish) leave (link job k .delay)
+
+  -- the result of entry m i at entry n j
+  arrival : (m n : ℕ → ℕ) → result (m (link job k .from)) ≡ resultOf job (link job k) (entry cs (m (link job k .from)))
+      → (c : Result) (d : Copy) (r : Bool) → c ≡ result (m i) → d ≡ entry cs (n j) → r ≡ comes c d
       → r ≡ inTime job (link job k) (entry cs (m (link job k .from))) (entry cs (n (link job k .to)))
-  arrival m n c d r ec ed er =
-      er ∙ in-time-is job (link job k) c d
-      ∙ ap₂ (inTime job (link job k)) (ec ∙ ap (λ x. entry cs (m x)) ei) (ed ∙ ap (λ x. entry cs (n x)) ej)
+  arrival m n is c d r ec ed er =
+      er ∙ ap₂ comes (ec ∙ ap (λ x. result (m x)) ei ∙ is) (ed ∙ ap (λ x. entry cs (n x)) ej)
+      ∙ comes-is job (link job k) _ _
 
   pub walk-more : (into : List ℕ) (primary unsure : ℕ) → Walking job cs k into primary unsure
-      → (p b q c : Copy) → p ≡ entry cs (2 * i) → b ≡ entry cs (2 * i + 1) → q ≡ entry cs (2 * j) → c ≡ entry cs (2 * j + 1)
-      → (x y z s : Bool) → x ≡ arrived p q → y ≡ arrived p c → z ≡ arrived b c → s ≡ arrived b q
+      → (p b : Result) (q c : Copy) → p ≡ result (2 * i) → b ≡ result (2 * i + 1) → q ≡ entry cs (2 * j) → c ≡ entry cs (2 * j + 1)
+      → (x y z s : Bool) → x ≡ comes p q → y ≡ comes p c → z ≡ comes b c → s ≡ comes b q
       → (u v w bit : ℕ) → u ≡ notedOf primary k x → v ≡ cond y 0 (2 ^ i) → w ≡ cond z 0 (2 ^ i) → bit ≡ cond s 0 (2 ^ i)
       → Walking job cs (k + 1) (set into j (bitOr (getD into j 0) bit)) u (bitOr (bitOr unsure v) w)
   unfolding rowOf ruleD waitsForBoth strong
@@ -148,9 +154,9 @@ module _ (job : Job) (cs : Copies) (timed : Timed (job .links) (links job) cs) (
         size = length-set into _ _ ∙ h .size;
         weak =
             subst (λ m. WeakTo job (rowOf cs) (k + 1) (set into m (bitOr (getD into m 0) bit))) (sym ej)
-            (weak-more job (rowOf cs) k into (h .weak) s bit (arrival (λ m. 2 * m + 1) (λ m. 2 * m) b q s eb eq es)
+            (weak-more job (rowOf cs) k into (h .weak) s bit (arrival (λ m. 2 * m + 1) (λ m. 2 * m) (timed .backup k low) b q s eb eq es)
             (ebit ∙ ap (λ m. cond s 0 (2 ^ m)) ei) (omega (arith, timed .to k low, h .size)));
-        d = note-more (keepsD job cs) k primary u x small (h .d) (arrival (λ m. 2 * m) (λ m. 2 * m) p q x ep eq ex) eu;
+        d = note-more (keepsD job cs) k primary u x small (h .d) (arrival (λ m. 2 * m) (λ m. 2 * m) (timed .primary k low) p q x ep eq ex) eu;
         e = λ m p f. elim (decLt m k) [
           | yes below ↦ stays y z unsure v w i ev ew _ (h .e m below f)
           | no above ↦
@@ -161,13 +167,15 @@ module _ (job : Job) (cs : Copies) (timed : Timed (job .links) (links job) cs) (
       }
     where
       both : (y and z) ≡ sure job (rowOf cs) k
-      both = ap₂ _and_ (arrival (λ m. 2 * m) (λ m. 2 * m + 1) p c y ep ec ey) (arrival (λ m. 2 * m + 1) (λ m. 2 * m + 1) b c z eb ec ez)
+      both =
+          ap₂ _and_ (arrival (λ m. 2 * m) (λ m. 2 * m + 1) (timed .primary k low) p c y ep ec ey)
+          (arrival (λ m. 2 * m + 1) (λ m. 2 * m + 1) (timed .backup k low) b c z eb ec ez)
 
 -- after all links
 abbrev pub linkRefusal : Job → (ℕ → ℕ → Refusal) → ℕ → Refusal
 linkRefusal job refusal k = refusal (link job k .from) (link job k .to)
 
-module _ (job : Job) (cs : Copies) (timed : Timed (job .links) (links job) cs) (k : ℕ) (into : List ℕ) (primary unsure : ℕ)
+module _ (job : Job) (cs : Copies) (leave : List ℕ) (timed : Timed (job .links) (links job) cs leave) (k : ℕ) (into : List ℕ) (primary unsure : ℕ)
     (h : Walking job cs k into primary unsure) (end : links job ≤ k) where
   all : Walking job cs (links job) into primary unsure
   all = let d : k ≡ links job = omega (arith, h .within) in subst (λ n. Walking job cs n into primary unsure) d h

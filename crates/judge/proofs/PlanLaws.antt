@@ -32,13 +32,14 @@ use Rattle.rules.proofs.FaultSetLaws.{faults-here, faults-over, faults-e, rows-
 use Rattle.rules.proofs.Waits.{both-keeps}
 use Rattle.copies.specs.declared.table.Copies.{Copies}
 use Rattle.copies.specs.Sets.{has}
+use Rattle.copies.specs.Arrival.{leaveOf, Leaving}
 use Rattle.copies.specs.Table.{table, entry, rowOf, Held}
 use Rattle.copies.proofs.SetLaws.{has-none}
 use Rattle.copies.proofs.TableLaws.{same-row}
-use Rattle.copies.proofs.ArrivalLaws.{backup-fed}
+use Rattle.copies.proofs.ArrivalLaws.{backup-fed, result-is}
 use Rattle.judge.specs.Parts.{byTasks, byLinks, byBackups, byFaults}
 use Rattle.judge.specs.Tasks.{CopyFits, Copied, TasksJudged}
-use Rattle.judge.specs.Links.{Timed, weakLink, WeakTo, sure, SureBut, LinksJudged}
+use Rattle.judge.specs.Links.{linked, Timed, weakLink, WeakTo, sure, SureBut, LinksJudged}
 use Rattle.judge.specs.declared.links.Walked.{Walked}
 use Rattle.judge.specs.Backups.{linkFeeds, backupBreach, Unsure}
 use Rattle.judge.specs.Faults.{gathered, Senders, FaultSets, Low, lossBreach}
@@ -91,14 +92,18 @@ module _ (job : Job) (plan : Plan) (sound : Sound job) (reads : PlanSound job pl
         (λ j p. subst (Able job) (sym (copied .backup j p ∙ row-backup job plan (tasks job) j p))
         (able j _ _ (reads .backup-node j p) (reads .backup-able j p) (placeable job plan sound reads .backup j p)))
 
-    pub timed : Timed (job .links) (links job) cs
-    timed =
+    unfoldable pub timed : (leave : List ℕ) → Leaving job (2 * tasks job) cs leave
+        → (sets : List ℕ) → Timed (job .links) (links job) (table (cs .node) (cs .start) (cs .finish) sets) leave
+    timed leave leaving sets =
         record {
+          job = job;
           few = sound .links-most;
           from = λ k p. omega (arith, from-low job sound k p, sound .tasks-most);
           to = λ k p. omega (arith, sound .into k p, sound .tasks-most);
-          primary = λ k p. omega (arith, entry-able (2 * link job k .from) (omega (arith, from-low job sound k p)) .ends, sound .delay-most k p);
-          backup = λ k p. omega (arith, entry-able (2 * link job k .from + 1) (omega (arith, from-low job sound k p)) .ends, sound .delay-most k p);
+          primary-fits = λ k p. omega (arith, leaving .soon (2 * link job k .from), sound .delay-most k p);
+          backup-fits = λ k p. omega (arith, leaving .soon (2 * link job k .from + 1), sound .delay-most k p);
+          primary = λ k p. result-is job _ cs leave leaving (link job k) _ (omega (arith, from-low job sound k p));
+          backup = λ k p. result-is job _ cs leave leaving (link job k) _ (omega (arith, from-low job sound k p));
         }
 
     links-are : byLinks job (rowOf cs) ≡ byLinks job t
@@ -136,8 +141,9 @@ module _ (job : Job) (plan : Plan) (sound : Sound job) (reads : PlanSound job pl
             earlier = λ j i p h. weak-e j i p h (λ k pk from to w. omega (arith, sound .rise k pk));
           }
 
-      -- the sets
-      module _ (sets : List ℕ) (filled : FaultSets (cs .node) into (tasks job) (tasks job) sets) where
+      -- the sets, and when the results leave
+      module _ (sets : List ℕ) (filled : FaultSets (cs .node) into (tasks job) (tasks job) sets)
+          (leave : List ℕ) (left : (k : ℕ) → k < 2 * tasks job → getD leave k 0 ≡ leaveOf job (entry cs k)) where
         abbrev final : Copies
         final = table (cs .node) (cs .start) (cs .finish) sets
 
@@ -188,28 +194,24 @@ module _ (job : Job) (plan : Plan) (sound : Sound job) (reads : PlanSound job pl
 
         -- E at link k, by the table
         feeds-is : (k : ℕ) → k < links job
-            → linkFeeds (job .links) final k ≡ ruleE job (link job k) (rowOf final (link job k .from)) (rowOf final (link job k .to))
+            → linkFeeds (job .links) final leave k ≡ ruleE job (link job k) (rowOf final (link job k .from)) (rowOf final (link job k .to))
         unfolding linkFeeds rowOf
-        feeds-is k p = backup-fed job final (tasks job) held _ (rowOf final (link job k .to)) refl (link job k) _ (from-low job sound k p)
+        feeds-is k p =
+            let low = from-low job sound k p in
+            rw (left (2 * link job k .from) (omega arith), left (2 * link job k .from + 1) (omega arith))
+            (backup-fed job final (tasks job) held _ (rowOf final (link job k .to)) refl (link job k) _ low)
 
-        backups-are-judged : backupBreach (job .links) (links job) final ≡ byBackups job t
+        backups-are-judged : backupBreach (job .links) (links job) final leave ≡ byBackups job t
         unfolding backupBreach byBackups firstLink
         backups-are-judged = first-same (links job) _ _ (λ k p. rw (feeds-is k p)) ∙ backups-same job sound (rowOf final) t rows-are
 
         -- a link that is sure keeps it; others come from the senders in the set
         module _ (u : ℕ) (is : SureBut job (rowOf cs) (links job) u) where
-          others : (k : ℕ) → k < links job → has u (link job k .from) ≡ false → linkFeeds (job .links) final k ≡ true
+          others : (k : ℕ) → k < links job → has u (link job k .from) ≡ false → linkFeeds (job .links) final leave k ≡ true
           unfolding waitsForBoth rowOf
           others k p out =
               feeds-is k p
               ∙ both-keeps job (link job k) _ _ (split (sure job (rowOf cs) k) (λ e. e) (λ e. clash _ (is k p e) out))
-
-          unsure : Unsure (job .links) (links job) u final
-          unsure =
-              record {
-                timed = record { few = timed .few; from = timed .from; to = timed .to; primary = timed .primary; backup = timed .backup };
-                others = others;
-              }
 
           all-sure : u ≡ 0 → byBackups job t ≡ none
           unfolding backupBreach
@@ -225,7 +227,8 @@ module _ (job : Job) (plan : Plan) (sound : Sound job) (reads : PlanSound job pl
         faults-are-judged = breach-is ∙ faults-same job sound (rowOf final) t rows-are
 
 -- the answer of each part where the parts before it found nothing
-module _ (job : Job) (plan : Plan) (sound : Sound job) (reads : PlanSound job plan) (cs : Copies) (v : Answer) (placed : TasksJudged job plan cs v) where
+module _ (job : Job) (plan : Plan) (sound : Sound job) (reads : PlanSound job plan)
+    (cs : Copies) (leave : List ℕ) (v : Answer) (placed : TasksJudged job plan cs leave v) where
   parts : (u : Answer)
       → u ≡ answered (byTasks job (rows job plan) or-else byLinks job (rows job plan)
       or-else byBackups job (rows job plan) or-else byFaults job (rows job plan)) → u ≡ judge job plan
@@ -244,7 +247,12 @@ module _ (job : Job) (plan : Plan) (sound : Sound job) (reads : PlanSound job pl
   abbrev bare : Copies
   bare = table (cs .node) (cs .start) (cs .finish) []
 
-  module _ (into : List ℕ) (w : Walked) (walked : LinksJudged job bare into w) where
+  module _ (into : List ℕ) (w : Walked)
+      (walk : (it : Timed (job .links) (links job) bare leave) → LinksJudged (linked (it .job) (job .links) (links job)) bare into w) where
+    walked : LinksJudged job bare into w
+    unfolding timed
+    walked = walk (timed job plan sound reads cs (placed .tabled .copied) leave (placed .leaving) [])
+
     -- the table before the first fault set
     pub fillable : Senders (cs .node) into (tasks job) × FaultSets (cs .node) into (tasks job) 0 (cs .set)
     fillable =
@@ -264,15 +272,23 @@ module _ (job : Job) (plan : Plan) (sound : Sound job) (reads : PlanSound job pl
       abbrev full : Copies
       full = table (cs .node) (cs .start) (cs .finish) sets
 
-      pub pass-ready : Unsure (job .links) (links job) (w .unsure) full
-      pass-ready = unsure job plan sound reads bare (placed .tabled .copied) into (walked .weak) sets filled (w .unsure) (walked .unsure)
+      pub pass-ready : Unsure (job .links) (links job) (w .unsure) full leave
+      pass-ready =
+          record {
+            timed = timed job plan sound reads cs (placed .tabled .copied) leave (placed .leaving) sets;
+            others = others job plan sound reads bare (placed .tabled .copied) into (walked .weak) sets filled leave (placed .leaving .is)
+                (w .unsure) (walked .unsure);
+          }
 
       -- what the pass answers
       abbrev Passed : Answer → Type 0
-      Passed u = u ≡ answered (backupBreach (job .links) (links job) full)
+      Passed u = u ≡ answered (backupBreach (job .links) (links job) full leave)
 
       backups-answer : (u : Answer) → Passed u → u ≡ answered (byBackups job (rows job plan))
-      backups-answer u e = e ∙ ap answered (backups-are-judged job plan sound reads bare (placed .tabled .copied) into (walked .weak) sets filled)
+      backups-answer u e =
+          e
+          ∙ ap answered
+          (backups-are-judged job plan sound reads bare (placed .tabled .copied) into (walked .weak) sets filled leave (placed .leaving .is))
 
       -- every link is sure, or the pass found nothing
       abbrev Fed : Type 0
@@ -281,7 +297,8 @@ module _ (job : Job) (plan : Plan) (sound : Sound job) (reads : PlanSound job pl
       backups-kept : Fed → byBackups job (rows job plan) ≡ none
       backups-kept =
           ⊎-elim
-          (all-sure job plan sound reads bare (placed .tabled .copied) into (walked .weak) sets filled (w .unsure) (walked .unsure))
+          (all-sure job plan sound reads bare (placed .tabled .copied) into (walked .weak) sets filled leave (placed .leaving .is)
+          (w .unsure) (walked .unsure))
           (λ x. done-none _ _ (backups-answer (x .0) (x .1)) (x .2))
 
       module _ (done : v ≡ Done) (walk-done : w .answer ≡ Done) where
@@ -295,5 +312,6 @@ module _ (job : Job) (plan : Plan) (sound : Sound job) (reads : PlanSound job pl
         pub faults-answered : Fed → (u : Answer) → u ≡ answered (faultBreach full (tasks job)) → u ≡ judge job plan
         faults-answered fed u e =
             parts u (before _ u (e
-            ∙ ap answered (faults-are-judged job plan sound reads bare (placed .tabled .copied) into (walked .weak) sets filled)
+            ∙ ap answered
+            (faults-are-judged job plan sound reads bare (placed .tabled .copied) into (walked .weak) sets filled leave (placed .leaving .is))
             ∙ after _ _ (backups-kept fed)))

@@ -1,16 +1,18 @@
 -- Laws of the pass over the tasks: two entries more, and the rules of tasks at each.
 use Prim.Native.Nat.{ℕ, _+_, _*_, _≤_, _<_}
 use mathlib.Core.Bool.{not}
+use mathlib.Core.List.{List}
 use mathlib.Core.Path.{_≡_, sym, _∙_, ap, ap₂, subst}
 use native.Mathlib.Nat.{not-suc-le-zero}
 use native.Mathlib.Omega.{arith}
 use lib.Dec.{eqb, leb}
+use lib.ListN.{set, replicate}
 use Rattle.reader.specs.declared.job.Job.{Job}
 use Rattle.reader.specs.declared.plan.Plan.{Plan}
 use Rattle.reader.specs.declared.refusal.Refusal.the-variants.{SameNode, TooSoon, Early, Late}
 use Rattle.reader.specs.declared.refusal.Answer.{Answer}
 use Rattle.reader.specs.First.{_or-else_}
-use Rattle.reader.specs.Limits.{maxTasks, maxStart}
+use Rattle.reader.specs.Limits.{maxSend, maxTasks, maxTime, maxStart}
 use Rattle.reader.specs.Entries.{nodes, tasks, detect, ready, deadline, task, place}
 use Rattle.reader.specs.Refusals.{answered}
 use Rattle.reader.specs.Sound.{Sound, PlanSound}
@@ -22,7 +24,9 @@ use Rattle.rules.specs.Judge.{firstTask}
 use Rattle.rules.proofs.FaultSetLaws.{row-primary, row-backup}
 use Rattle.copies.specs.declared.table.Copies.{Copies}
 use Rattle.copies.specs.Sets.{everyNode}
-use Rattle.copies.specs.Table.{Whole, Stored}
+use Rattle.copies.specs.Arrival.{leaveOf, Leaving}
+use Rattle.copies.specs.Table.{copyCount, Whole, Stored}
+use Rattle.copies.proofs.ArrivalLaws.{leaving-start, leaving-more}
 use Rattle.judge.specs.Notes.{nowhere, firstBroken, notedOf, seen}
 use Rattle.judge.specs.Parts.{byTasks}
 use Rattle.judge.specs.Tasks.{CopyFits, copyOn, Placeable, Tabled, TasksJudged}
@@ -40,6 +44,8 @@ placeable job plan sound reads =
       primary = λ j p. copy-fits job sound j _ _ p (reads .primary-node j p) (reads .primary-start j p);
       backup = λ j p. copy-fits job sound j _ _ p (reads .backup-node j p) (reads .backup-start j p);
       detects = λ j p. sound .detect-most _ (reads .primary-node j p);
+      primary-sends = λ j p. sound .send-most _ (reads .primary-node j p);
+      backup-sends = λ j p. sound .send-most _ (reads .backup-node j p);
     }
 
 pub detect-fits : (job : Job) (plan : Plan) → Placeable (job .tasks) (job .nodes) (tasks job) plan → (j : ℕ) → j < tasks job
@@ -47,18 +53,28 @@ pub detect-fits : (job : Job) (plan : Plan) → Placeable (job .tasks) (job .nod
     → p .finish + detect job (p .node) < 4_294_967_296
 detect-fits job plan h j low p is = rw is (omega (arith, h .primary j low .ends, h .detects j low))
 
+-- a delay can be added to when the results of both copies leave
+pub leaves-soon : (job : Job) (plan : Plan) → Placeable (job .tasks) (job .nodes) (tasks job) plan → (j : ℕ) → j < tasks job
+    → (p b : Copy) → p ≡ copyOn (task job j) (place plan j .«primary_node») (place plan j .«primary_start»)
+    → b ≡ copyOn (task job j) (place plan j .«backup_node») (place plan j .«backup_start»)
+    → (leaveOf job p ≤ maxStart + maxTime + maxSend) × (leaveOf job b ≤ maxStart + maxTime + maxSend)
+leaves-soon job plan h j low p b ip ib =
+    (rw ip (omega (arith, h .primary j low .ends, h .primary-sends j low)), rw ib (omega (arith, h .backup j low .ends, h .backup-sends j low)))
+
 -- after the first j tasks
-pub record Placing (job : Job) (plan : Plan) (j : ℕ) (cs : Copies) (same soon early late : ℕ) : Type 0 where
+pub record Placing (job : Job) (plan : Plan) (j : ℕ) (cs : Copies) (leave : List ℕ) (same soon early late : ℕ) : Type 0 where
   pub within : j ≤ tasks job
   pub tabled : Tabled job plan j cs
+  pub leaving : Leaving job (2 * j) cs leave
   pub a : same ≡ firstBroken j (λ i. ruleA job (rows job plan i))
   pub ready : soon ≡ firstBroken j (λ i. ruleReady job i (rows job plan i .primary))
   pub b : early ≡ firstBroken j (λ i. ruleB job (rows job plan i))
   pub c : late ≡ firstBroken j (λ i. ruleC job i (rows job plan i))
 
 module _ (job : Job) (plan : Plan) where
-  pub placing-start : (cs : Copies) → Whole cs → Placing job plan 0 cs nowhere nowhere nowhere nowhere
-  placing-start cs whole =
+  pub placing-start : (cs : Copies) (leave : List ℕ) → Whole cs → leave ≡ replicate copyCount 0
+      → Placing job plan 0 cs leave nowhere nowhere nowhere nowhere
+  placing-start cs leave whole zeros =
       record {
         within = omega arith;
         tabled =
@@ -67,6 +83,7 @@ module _ (job : Job) (plan : Plan) where
               copied = record { primary = λ j p. absurd (not-suc-le-zero p); backup = λ j p. absurd (not-suc-le-zero p) };
               primary-set = λ j p. absurd (not-suc-le-zero p);
             };
+        leaving = leaving-start job cs leave zeros;
         a = note-start _;
         ready = note-start _;
         b = note-start _;
@@ -94,8 +111,8 @@ module _ (job : Job) (plan : Plan) where
       }
 
   -- one task more, with its copies p and b
-  pub placing-more : tasks job ≤ maxTasks → (j : ℕ) (cs : Copies) (same soon early late : ℕ)
-      → Placing job plan j cs same soon early late → j < tasks job
+  pub placing-more : Placeable (job .tasks) (job .nodes) (tasks job) plan → (j : ℕ) (cs : Copies) (leave : List ℕ) (same soon early late : ℕ)
+      → Placing job plan j cs leave same soon early late → j < tasks job
       → (p b : Copy)
       → p ≡ copyOn (task job j) (place plan j .«primary_node») (place plan j .«primary_start»)
       → b ≡ copyOn (task job j) (place plan j .«backup_node») (place plan j .«backup_start»)
@@ -105,32 +122,41 @@ module _ (job : Job) (plan : Plan) where
       → y ≡ notedOf early j (leb (p .finish + detect job (p .node)) (b .start))
       → z ≡ notedOf late j (leb (b .finish) (deadline job j))
       → (ds es : Copies) → Stored cs (2 * j) p everyNode ds → Stored ds (2 * j + 1) b everyNode es → Whole es
-      → Placing job plan (j + 1) es x w y z
+      → Placing job plan (j + 1) es (set (set leave (2 * j) (leaveOf job p)) (2 * j + 1) (leaveOf job b)) x w y z
   unfolding copy domain ruleA ruleReady ruleB ruleC
-  placing-more most j cs same soon early late h low p b ip ib x w y z ex ew ey ez ds es first second whole =
+  placing-more fits j cs leave same soon early late h low p b ip ib x w y z ex ew ey ez ds es first second whole =
       let ep : p ≡ rows job plan j .primary = ip ∙ sym (row-primary job plan (tasks job) j low) in
       let eb : b ≡ rows job plan j .backup = ib ∙ sym (row-backup job plan (tasks job) j low) in
       let small : j < nowhere = omega arith in
+      let next : 2 * j + 1 + 1 ≡ 2 * (j + 1) = omega arith in
+      let leaves = leaves-soon job plan fits j low p b ip ib in
       record {
         within = omega arith;
         tabled = tabled-more j cs ds es p b first second whole ep eb (h .tabled);
+        leaving =
+            subst (λ n. Leaving job n es (set (set leave (2 * j) (leaveOf job p)) (2 * j + 1) (leaveOf job b))) next
+            (leaving-more job (2 * j + 1) ds _
+            (leaving-more job (2 * j) cs leave (h .leaving) ds (λ k q. first .other k (λ e. omega arith)) (omega arith) _
+            (ap (leaveOf job) (sym (first .here))) (leaves .0))
+            es (λ k q. second .other k (λ e. omega arith)) (omega arith) _ (ap (leaveOf job) (sym (second .here))) (leaves .1));
         a = note-more _ j same x _ small (h .a) (ap₂ (λ (c d : Copy). not (eqb (c .node) (d .node))) ep eb) ex;
         ready = note-more _ j soon w _ small (h .ready) (ap (λ (c : Copy). leb (ready job j) (c .start)) ep) ew;
         b = note-more _ j early y _ small (h .b) (ap₂ (λ (c d : Copy). leb (c .finish + detect job (c .node)) (d .start)) ep eb) ey;
         c = note-more _ j late z _ small (h .c) (ap (λ (d : Copy). leb (d .finish) (deadline job j)) eb) ez;
       }
 
-  pub placing-done : tasks job ≤ maxTasks → (j : ℕ) (cs : Copies) (same soon early late : ℕ)
-      → Placing job plan j cs same soon early late → tasks job ≤ j
+  pub placing-done : tasks job ≤ maxTasks → (j : ℕ) (cs : Copies) (leave : List ℕ) (same soon early late : ℕ)
+      → Placing job plan j cs leave same soon early late → tasks job ≤ j
       → (v : Answer) → v ≡ answered (seen SameNode same or-else seen TooSoon soon or-else seen Early early or-else seen Late late)
-      → TasksJudged job plan cs v
+      → TasksJudged job plan cs leave v
   unfolding byTasks firstTask
-  placing-done most j cs same soon early late h end v e =
+  placing-done most j cs leave same soon early late h end v e =
       let d : j ≡ tasks job = omega (arith, h .within) in
-      let g = subst (λ n. Placing job plan n cs same soon early late) d h in
+      let g = subst (λ n. Placing job plan n cs leave same soon early late) d h in
       let few : tasks job ≤ nowhere = omega arith in
       record {
         tabled = g .tabled;
+        leaving = g .leaving;
         answer =
             e ∙ ap answered
             (ap₂ _or-else_ (note-seen _ (tasks job) same few (g .a) SameNode)

@@ -12,24 +12,25 @@ use Rattle.reader.specs.First.{first, unless}
 use Rattle.reader.specs.Entries.{noLink}
 use Rattle.copies.specs.declared.table.Copies.{Copies}
 use Rattle.copies.specs.Sets.{has}
-use Rattle.copies.specs.Arrival.{fedOf}
+use Rattle.copies.specs.Arrival.{fedOf, resultAt}
 use Rattle.copies.specs.Table.{entry, setAt}
 use Rattle.judge.specs.Links.{Timed}
 
 module _ (list : List Link) where
   -- link k feeds the backup to which it leads
-  unfoldable pub linkFeeds : Copies → ℕ → Bool
-  linkFeeds cs k =
+  unfoldable pub linkFeeds : Copies → List ℕ → ℕ → Bool
+  linkFeeds cs leave k =
       let l = getD list k noLink in
       let i = 2 * l .from in
       let j = 2 * l .to + 1 in
-      fedOf (l .delay) (entry cs i) (entry cs (i + 1)) (setAt cs (i + 1)) (entry cs j) (setAt cs j)
+      let result = resultAt (cs .node) (cs .finish) leave (l .delay) in
+      fedOf (result i) (result (i + 1)) (setAt cs (i + 1)) (entry cs j) (setAt cs j)
 
   -- E over the first n links
-  unfoldable pub backupBreach : ℕ → Copies → Option Refusal
-  backupBreach n cs = first n λ k. let l = getD list k noLink in unless (linkFeeds cs k) (BackupUnfed (l .from) (l .to))
+  unfoldable pub backupBreach : ℕ → Copies → List ℕ → Option Refusal
+  backupBreach n cs leave = first n λ k. let l = getD list k noLink in unless (linkFeeds cs leave k) (BackupUnfed (l .from) (l .to))
 
   -- what the pass over them rests on: those from senders outside the set feed their backups
-  pub record Unsure (n unsure : ℕ) (cs : Copies) : Type 0 where
-    pub timed : Timed list n cs
-    pub others : (k : ℕ) → k < n → has unsure (getD list k noLink .from) ≡ false → linkFeeds cs k ≡ true
+  pub record Unsure (n unsure : ℕ) (cs : Copies) (leave : List ℕ) : Type 0 where
+    pub timed : Timed list n cs leave
+    pub others : (k : ℕ) → k < n → has unsure (getD list k noLink .from) ≡ false → linkFeeds cs leave k ≡ true

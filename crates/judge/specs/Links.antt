@@ -16,7 +16,7 @@ use Rattle.rules.specs.Rules.{Row, strong}
 use Rattle.rules.specs.Waits.{waitsForBoth}
 use Rattle.copies.specs.declared.table.Copies.{Copies}
 use Rattle.copies.specs.Sets.{has}
-use Rattle.copies.specs.Arrival.{SumFits}
+use Rattle.copies.specs.Arrival.{resultOf, resultAt, SumFits}
 use Rattle.copies.specs.Table.{entry, rowOf}
 use Rattle.judge.specs.declared.links.Walked.{Walked}
 use Rattle.judge.specs.Parts.{byLinks}
@@ -34,13 +34,19 @@ linked job ls n =
       links = ls;
     }
 
--- what the pass over the first n links rests on: each leads from task to task, and its delay can be added to the sender's finishes
-pub record Timed (list : List Link) (n : ℕ) (cs : Copies) : Type 0 where
+-- what the pass over the first n links of some job rests on: each leads from task to task, its delay can be added to when the sender's results
+-- leave, and these are then the job's
+pub record Timed (list : List Link) (n : ℕ) (cs : Copies) (leave : List ℕ) : Type 0 where
+  pub job : Job
   pub few : n ≤ maxLinks
   pub from : (k : ℕ) → k < n → getD list k noLink .from < maxTasks
   pub to : (k : ℕ) → k < n → getD list k noLink .to < maxTasks
-  pub primary : (k : ℕ) → k < n → SumFits (entry cs (2 * getD list k noLink .from) .finish) (getD list k noLink .delay)
-  pub backup : (k : ℕ) → k < n → SumFits (entry cs (2 * getD list k noLink .from + 1) .finish) (getD list k noLink .delay)
+  pub primary-fits : (k : ℕ) → k < n → SumFits (getD leave (2 * getD list k noLink .from) 0) (getD list k noLink .delay)
+  pub backup-fits : (k : ℕ) → k < n → SumFits (getD leave (2 * getD list k noLink .from + 1) 0) (getD list k noLink .delay)
+  pub primary : (k : ℕ) → k < n → let l = getD list k noLink in
+      resultAt (cs .node) (cs .finish) leave (l .delay) (2 * l .from) ≡ resultOf job l (entry cs (2 * l .from))
+  pub backup : (k : ℕ) → k < n → let l = getD list k noLink in
+      resultAt (cs .node) (cs .finish) leave (l .delay) (2 * l .from + 1) ≡ resultOf job l (entry cs (2 * l .from + 1))
 
 -- link k is a weak link from i to j
 unfoldable pub weakLink : Job → (ℕ → Row) → ℕ → ℕ → ℕ → Bool

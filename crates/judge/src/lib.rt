@@ -51,6 +51,7 @@ pub fn judge_plan(job: Job, plan: Plan) -> Answer
     let mut start = [0u32; Copies::COUNT];
     let mut finish = [0u32; Copies::COUNT];
     let mut sets = [0u32; Copies::COUNT];
+    let mut leave = [0u32; Copies::COUNT];
     let tasks = job.tasks;
     let nodes = job.nodes;
     let n = job.task_count as usize;
@@ -63,6 +64,7 @@ pub fn judge_plan(job: Job, plan: Plan) -> Answer
         &mut start,
         &mut finish,
         &mut sets,
+        &mut leave,
     );
     let Answer::Done = by_tasks else {
         return by_tasks;
@@ -70,7 +72,7 @@ pub fn judge_plan(job: Job, plan: Plan) -> Answer
     let mut into = [0u64; Job::MAX_TASKS];
     let links = job.links;
     let m = job.link_count as usize;
-    let walked = walk_links(links, m, &node, &start, &finish, &mut into);
+    let walked = walk_links(links, m, &node, &start, &finish, &leave, &mut into);
     let by_links = walked.answer;
     let Answer::Done = by_links else {
         return by_links;
@@ -78,7 +80,7 @@ pub fn judge_plan(job: Job, plan: Plan) -> Answer
     fault_sets(&node, &into, n, &mut sets);
     let unsure = walked.unsure;
     if unsure != 0 {
-        let by_backups = backups_fed(links, m, unsure, &node, &start, &finish, &sets);
+        let by_backups = backups_fed(links, m, unsure, &node, &start, &finish, &leave, &sets);
         let Answer::Done = by_backups else {
             return by_backups;
         };

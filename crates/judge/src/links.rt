@@ -1,31 +1,22 @@
 // One pass over the links: the weak ones, the first that breaks D, and those that may break E.
 use crate::note::NONE;
 use crate::note::noted;
-use copies::arrival::arrives;
+use copies::arrival::in_time;
+use copies::arrival::result_at;
 use copies::table::Copies;
 use copies::table::copy_at;
 use reader::job::Job;
 use reader::job::Link;
 use reader::refusal::Answer;
 use reader::refusal::Refusal;
-use rules::Copy;
 ghost use mathlib.Core.Path.{_≡_};
 ghost use Prim.Native.Nat.{_<_, _^_};
 ghost use mathlib.Core.Bool.{cond};
 ghost use mathlib.Core.List.{[]};
 ghost use lib.ListN.{replicate};
-ghost use Rattle.reader.specs.declared.job.Job.{Job};
 ghost use Rattle.reader.specs.Limits.{maxTasks};
-ghost use Rattle.copies.specs.Arrival.{SumFits, comes};
 ghost use Rattle.copies.specs.Table.{table};
 ghost use Rattle.judge.specs.Links.{linked, Timed, LinksJudged};
-
-pub fn in_time(delay: u32, c: Copy, d: Copy) -> bool
-    requires { ⌜ SumFits (c .finish) delay ⌝ }
-    ensures { λ r. ⌜ r ≡ comes delay c d ⌝ }
-{
-    arrives(delay, c.node, c.finish, d.node, d.start)
-}
 
 fn one_unless(kept: bool) -> u64
     ensures { λ r. ⌜ r ≡ cond kept 0 1 ⌝ }
@@ -55,18 +46,19 @@ pub struct Walked {
     pub unsure: u64,
 }
 
-// `into` has for each task, as bits, the tasks from which weak links lead to it.
+// `into` has for each task, as bits, the tasks from which weak links lead to it; `leave` has when the result of each copy leaves.
 pub fn walk_links<'c>(
     links: [Link; Job::MAX_LINKS],
     n: usize,
     node: &'c [u32; Copies::COUNT],
     start: &'c [u32; Copies::COUNT],
     finish: &'c [u32; Copies::COUNT],
+    leave: &'c [u32; Copies::COUNT],
     into: &mut [u64; Job::MAX_TASKS],
 ) -> Walked
-    requires { ⌜ Timed links n (table (now node) (now start) (now finish) []) × (now into ≡ replicate maxTasks 0) ⌝ }
-    ensures { λ r. ⌜ ((job : Job)
-        → LinksJudged (linked job links n) (table (now (node .entry)) (now (start .entry)) (now (finish .entry)) []) (now (into .exit)) r) ⌝ }
+    requires { ⌜ Timed links n (table (now node) (now start) (now finish) []) (now leave) × (now into ≡ replicate maxTasks 0) ⌝ }
+    ensures { λ r. ⌜ ((w : Timed links n (table (now (node .entry)) (now (start .entry)) (now (finish .entry)) []) (now (leave .entry)))
+        → LinksJudged (linked (w .job) links n) (table (now (node .entry)) (now (start .entry)) (now (finish .entry)) []) (now (into .exit)) r) ⌝ }
 {
     let mut primary = NONE;
     let mut unsure: u64 = 0;
@@ -75,15 +67,15 @@ pub fn walk_links<'c>(
         let l = links[k];
         let i = index(l.from);
         let j = index(l.to);
-        let p = copy_at(node, start, finish, 2 * i);
-        let b = copy_at(node, start, finish, 2 * i + 1);
+        let p = result_at(node, finish, leave, l.delay, 2 * i);
+        let b = result_at(node, finish, leave, l.delay, 2 * i + 1);
         let q = copy_at(node, start, finish, 2 * j);
         let c = copy_at(node, start, finish, 2 * j + 1);
-        primary = noted(primary, k, in_time(l.delay, p, q));
-        let first = late_bit(in_time(l.delay, p, c), i);
-        let second = late_bit(in_time(l.delay, b, c), i);
+        primary = noted(primary, k, in_time(p, q));
+        let first = late_bit(in_time(p, c), i);
+        let second = late_bit(in_time(b, c), i);
         unsure = unsure | first | second;
-        into[j] = into[j] | late_bit(in_time(l.delay, b, q), i);
+        into[j] = into[j] | late_bit(in_time(b, q), i);
         k += 1;
     }
     if primary != NONE {

@@ -13,12 +13,13 @@ use reader::refusal::Refusal;
 use rules::Copy;
 ghost use mathlib.Core.Path.{_≡_};
 ghost use Prim.Native.Nat.{_<_};
+ghost use lib.ListN.{replicate};
 ghost use Rattle.reader.specs.declared.job.Job.{Job};
 ghost use Rattle.reader.specs.declared.refusal.Refusal.the-variants.{SameNode, TooSoon, Early, Late};
 ghost use Rattle.reader.specs.First.{_or-else_};
 ghost use Rattle.reader.specs.Limits.{maxNodes};
 ghost use Rattle.reader.specs.Refusals.{answered};
-ghost use Rattle.copies.specs.Table.{table, Whole};
+ghost use Rattle.copies.specs.Table.{copyCount, table, Whole};
 ghost use Rattle.judge.specs.Notes.{seen};
 ghost use Rattle.judge.specs.Tasks.{CopyFits, copyOn, tasked, Placeable, TasksJudged};
 
@@ -63,10 +64,11 @@ pub fn place_copies(
     start: &mut [u32; Copies::COUNT],
     finish: &mut [u32; Copies::COUNT],
     sets: &mut [u32; Copies::COUNT],
+    leave: &mut [u32; Copies::COUNT],
 ) -> Answer
-    requires { ⌜ Placeable tasks nodes n plan × Whole (table (now node) (now start) (now finish) (now sets)) ⌝ }
-    ensures { λ r. ⌜ ((job : Job)
-        → TasksJudged (tasked job tasks nodes n) plan (table (now (node .exit)) (now (start .exit)) (now (finish .exit)) (now (sets .exit))) r) ⌝ }
+    requires { ⌜ Placeable tasks nodes n plan × Whole (table (now node) (now start) (now finish) (now sets)) × (now leave ≡ replicate copyCount 0) ⌝ }
+    ensures { λ r. ⌜ ((job : Job) → TasksJudged (tasked job tasks nodes n) plan
+        (table (now (node .exit)) (now (start .exit)) (now (finish .exit)) (now (sets .exit))) (now (leave .exit)) r) ⌝ }
 {
     let mut same = NONE;
     let mut soon = NONE;
@@ -80,11 +82,15 @@ pub fn place_copies(
         let b = copy_of(task, x.backup_node, x.backup_start);
         let q = p.node as usize;
         let own = nodes[q];
+        let r = b.node as usize;
+        let other = nodes[r];
         same = noted(same, j, p.node != b.node);
         soon = noted(soon, j, task.ready <= p.start);
         early = noted(early, j, p.finish + own.detect <= b.start);
         late = noted(late, j, b.finish <= task.deadline);
         let k = 2 * j;
+        leave[k] = p.finish + own.send;
+        leave[k + 1] = b.finish + other.send;
         put(node, start, finish, sets, k, p, ALL);
         put(node, start, finish, sets, k + 1, b, ALL);
         j += 1;

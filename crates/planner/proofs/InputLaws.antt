@@ -1,5 +1,5 @@
 -- Ready times and latest arrivals, link by link along the chain of a task's links.
-use Prim.Native.Nat.{ℕ, _+_, _≤_, _<_, max}
+use Prim.Native.Nat.{ℕ, _≤_, _<_, max}
 use mathlib.Core.Bool.{Bool, true, false, not, cond}
 use mathlib.Core.List.{List}
 use mathlib.Core.Path.{_≡_, refl, sym, _∙_, ap, ap₂, subst}
@@ -11,15 +11,15 @@ use Rattle.reader.specs.Tests.{_and_, _implies_}
 use Rattle.reader.proofs.TestLaws.{split, and-i, and-l, and-r, and-if, and-yes, and-join, same-test}
 use Rattle.reader.proofs.FirstLaws.{every-start}
 use Rattle.rules.specs.declared.Copy.{Copy}
-use Rattle.copies.specs.declared.table.Copies.{Copies}
+use Rattle.copies.specs.declared.arrival.Result.{Result}
 use Rattle.copies.specs.Sets.{meets}
-use Rattle.copies.specs.Arrival.{delayOf, inTimeOf, comes}
+use Rattle.copies.specs.Arrival.{arrivalOf, comes}
 use Rattle.copies.specs.Chain.{Chain}
-use Rattle.copies.proofs.ArrivalLaws.{delay-most, leb-max}
+use Rattle.copies.proofs.ArrivalLaws.{leb-max}
 use Rattle.planner.specs.declared.senders.Sender.{Sender}
 use Rattle.planner.specs.declared.inputs.Reach.{Reach}
 use Rattle.planner.specs.declared.inputs.Ready.{Ready}
-use Rattle.planner.specs.Senders.{latestInput, Sending}
+use Rattle.planner.specs.Senders.{Results, latestInput, InBy, Sending}
 use Rattle.planner.specs.Inputs.{readyOn, fartherOf, fedBy, Farthest, OwnTime, ReadyTime, allFed, Reached, Owned, Given}
 use Rattle.planner.proofs.SenderLaws.{Walk, walk-start, Next}
 
@@ -52,40 +52,32 @@ record Step (test : Copy → Bool) (r s : Reach) : Type 0 where
   covers : (d : Copy) → s .at ≤ d .start → (r .at ≤ d .start) × (test d ≡ true)
   reached : (d : Copy) → (d .node ≡ s .from → ⊥) → test d ≡ true → ((d .node ≡ r .from → ⊥) → r .at ≤ d .start) → s .at ≤ d .start
 
--- the result of a copy that takes the delay to each other node
-module _ (delay : ℕ) (c : Copy) where
+-- a result that is elsewhere no sooner than here, and not too late
+module _ (c : Result) (soon : InBy c) where
   -- it is on every node by then, and on another not before
-  comes-most : (d : Copy) → c .finish + delay ≤ d .start → comes delay c d ≡ true
-  unfolding inTimeOf
-  comes-most d p = le-leb (c .finish + delayOf delay (c .node) (d .node)) (d .start) (omega (arith, delay-most delay (c .node) (d .node)))
+  arrival-most : (n : ℕ) → arrivalOf c n ≤ c .away
+  unfolding arrivalOf
+  arrival-most n = split (eqb (c .node) n) (λ e. rw e (soon .0)) (λ e. rw e (omega arith))
 
-  comes-other : (d : Copy) → (d .node ≡ c .node → ⊥) → comes delay c d ≡ true → c .finish + delay ≤ d .start
-  unfolding inTimeOf delayOf
-  comes-other d ne h = leb-true (c .finish + delay) (d .start) (rw (ne-eqb (c .node) (d .node) (λ e. ne (sym e))) at h)
+  comes-most : (d : Copy) → c .away ≤ d .start → comes c d ≡ true
+  comes-most d p = le-leb (arrivalOf c (d .node)) (d .start) (omega (arith, arrival-most (d .node)))
 
-  farther-step : (r : Reach) → Step (comes delay c) r (fartherOf r (c .node) (c .finish + delay))
+  comes-other : (d : Copy) → (d .node ≡ c .node → ⊥) → comes c d ≡ true → c .away ≤ d .start
+  unfolding arrivalOf
+  comes-other d ne h = leb-true (c .away) (d .start) (rw (ne-eqb (c .node) (d .node) (λ e. ne (sym e))) at h)
+
+  farther-step : (r : Reach) → Step (comes c) r (fartherOf r (c .node) (c .away))
   unfolding fartherOf
   farther-step r =
-      split (ltb (r .at) (c .finish + delay))
-      (λ e. let p = ltb-true (r .at) (c .finish + delay) e in rw e (record {
+      split (ltb (r .at) (c .away))
+      (λ e. let p = ltb-true (r .at) (c .away) e in rw e (record {
         covers = λ d h. (omega arith, comes-most d h);
         reached = λ d ne t h. comes-other d ne t;
       }))
-      (λ e. let p = ltb-false (r .at) (c .finish + delay) e in rw e (record {
+      (λ e. let p = ltb-false (r .at) (c .away) e in rw e (record {
         covers = λ d h. (h, comes-most d (omega arith));
         reached = λ d ne t h. h ne;
       }))
-
-  -- the time on node q with it too
-  abbrev raised : ℕ → ℕ → ℕ
-  raised q own = max own (c .finish + delayOf delay (c .node) q)
-
-  own-step : (q own : ℕ) (d : Copy) → d .node ≡ q → leb (raised q own) (d .start) ≡ (leb own (d .start) and comes delay c d)
-  unfolding inTimeOf
-  own-step q own d n = ap (λ x. leb (raised x own) (d .start)) (sym n) ∙ leb-max own _ (d .start)
-
-  own-most : (q own : ℕ) → own ≤ latestInput → c .finish + delay ≤ latestInput → raised q own ≤ latestInput
-  own-most q own a b = omega (arith, delay-most delay (c .node) q)
 
 -- two results more
 step-both : (a b : Copy → Bool) (r s t : Reach) → Step a r s → Step b s t → Step (λ d. a d and b d) r t
@@ -120,29 +112,29 @@ and-swap : (a b : Bool) → (a and b) ≡ (b and a)
 and-swap a b = same-test _ _ (λ h. and-i _ _ (and-r _ _ h) (and-l _ _ h)) (λ h. and-i _ _ (and-r _ _ h) (and-l _ _ h))
 
 -- for a copy of a set, along the chains that begin at `last`
-module _ (next from delay : List ℕ) (cs : Copies) (last set : ℕ) where
+module _ (next from delay : List ℕ) (rs : Results) (last set : ℕ) where
   abbrev fed : (ℕ → ℕ) → ℕ → ℕ → Copy → Bool
-  fed = allFed next from delay cs last set
+  fed = allFed next from delay rs last set
 
   -- what `farthest` keeps: r is the latest arrival by the links passed, down to `left`
   pub record Reaching (left : ℕ) (r : Reach) : Type 0 where
-    pub walk : Walk next from delay cs last left
+    pub walk : Walk next from delay rs last left
     pub most : r .at ≤ latestInput
     pub covers : (key : ℕ → ℕ) (j : ℕ) → Chain key next j last
         → (d : Copy) → r .at ≤ d .start → fed key j left d ≡ true → fed key j last d ≡ true
     pub reached : (key : ℕ → ℕ) (j : ℕ) → Chain key next j last
         → (d : Copy) → (d .node ≡ r .from → ⊥) → fed key j last d ≡ true → r .at ≤ d .start
 
-  pub reaching-start : Sending next from delay cs last → (r : Reach) → r .at ≡ 0 → Reaching last r
+  pub reaching-start : Sending next from delay rs last → (r : Reach) → r .at ≡ 0 → Reaching last r
   reaching-start pre r z =
       record {
-        walk = walk-start next from delay cs last pre;
+        walk = walk-start next from delay rs last pre;
         most = omega (arith, z);
         covers = λ key j c d p h. h;
         reached = λ key j c d ne h. omega (arith, z);
       }
 
-  pub reaching-done : (left : ℕ) (r : Reach) → left ≡ 0 → Reaching left r → Reached next from delay cs last set r
+  pub reaching-done : (left : ℕ) (r : Reach) → left ≡ 0 → Reaching left r → Reached next from delay rs last set r
   reaching-done left r e h =
       record {
         most = h .most;
@@ -154,20 +146,20 @@ module _ (next from delay : List ℕ) (cs : Copies) (last set : ℕ) where
 
   -- what `own_time` keeps: own is the time on node q by the links passed
   pub record Owning (q left own : ℕ) : Type 0 where
-    pub walk : Walk next from delay cs last left
+    pub walk : Walk next from delay rs last left
     pub most : own ≤ latestInput
     pub is : (key : ℕ → ℕ) (j : ℕ) → Chain key next j last
         → (d : Copy) → d .node ≡ q → (leb own (d .start) and fed key j left d) ≡ fed key j last d
 
-  pub owning-start : Sending next from delay cs last → (q : ℕ) → Owning q last 0
+  pub owning-start : Sending next from delay rs last → (q : ℕ) → Owning q last 0
   owning-start pre q =
       record {
-        walk = walk-start next from delay cs last pre;
+        walk = walk-start next from delay rs last pre;
         most = omega arith;
         is = λ key j c d n. and-if _ _ (le-leb 0 (d .start) (omega arith));
       }
 
-  pub owning-done : (q left own : ℕ) → left ≡ 0 → Owning q left own → Owned next from delay cs last set q own
+  pub owning-done : (q left own : ℕ) → left ≡ 0 → Owning q left own → Owned next from delay rs last set q own
   owning-done q left own e h =
       record {
         most = h .most;
@@ -176,46 +168,44 @@ module _ (next from delay : List ℕ) (cs : Copies) (last set : ℕ) where
       }
 
   -- one link more, by which x comes
-  module _ (left : ℕ) (x : Sender) (n : Next next from delay cs last left x) where
-    abbrev p : Copy
+  module _ (left : ℕ) (x : Sender) (n : Next next from delay rs last left x) where
+    abbrev p : Result
     p = x .primary
 
-    abbrev b : Copy
+    abbrev b : Result
     b = x .backup
 
     -- whether it counts
     abbrev shared : Bool
     shared = not (eqb (bitAnd (x .set) set) 0)
 
-    pub reaching-more : (r : Reach) → Reaching left r → (half s : Reach) (late : ℕ) → half ≡ fartherOf r (p .node) (p .finish + x .delay)
-        → late ≡ cond shared (b .finish + x .delay) 0 → s ≡ fartherOf half (b .node) late → Reaching (x .next) s
+    pub reaching-more : (r : Reach) → Reaching left r → (half s : Reach) (late : ℕ) → half ≡ fartherOf r (p .node) (p .away)
+        → late ≡ cond shared (b .away) 0 → s ≡ fartherOf half (b .node) late → Reaching (x .next) s
     reaching-more r h half s late f l g =
-        let one = subst (Step (comes (x .delay) p) r) (sym f) (farther-step (x .delay) p r) in
-        let two = subst (Step (λ d. meets (x .set) set implies comes (x .delay) b d) half) (sym g)
-        (step-if (x .set) set _ half (b .node) _ late (farther-step (x .delay) b half) l) in
+        let one = subst (Step (comes p) r) (sym f) (farther-step p (n .soon .0) r) in
+        let two = subst (Step (λ d. meets (x .set) set implies comes b d) half) (sym g)
+        (step-if (x .set) set _ half (b .node) _ late (farther-step b (n .soon .1) half) l) in
         let step = step-both _ _ r half s one two in
-        let m = subst (λ s. s .at ≤ latestInput) (sym f) (farther-most r (p .node) _ (h .most) (n .soon .0)) in
+        let m = subst (λ s. s .at ≤ latestInput) (sym f) (farther-most r (p .node) _ (h .most) (n .soon .0 .1)) in
         record {
           walk = n .walk;
-          most = subst (λ s. s .at ≤ latestInput) (sym g) (farther-most half (b .node) late m (only-most shared _ late l (n .soon .1)));
+          most = subst (λ s. s .at ≤ latestInput) (sym g) (farther-most half (b .node) late m (only-most shared _ late l (n .soon .1 .1)));
           covers = λ key j c d q t.
               let y = step .covers d q in
               h .covers key j c d (y .0) (n .all key j c (fedBy set d) ∙ and-i _ _ t (y .1));
           reached = λ key j c d ne t. step .reached d ne (n .one key j c (fedBy set d) t) (λ m. h .reached key j c d m t);
         }
 
-    pub owning-more : (q own : ℕ) → Owning q left own → (half at late new : ℕ) → half ≡ raised (x .delay) p q own → at ≡ raised (x .delay) b q 0
-        → late ≡ cond shared at 0 → new ≡ max half late → Owning q (x .next) new
-    owning-more q own h half at late new f a l g =
-        let m = own-most (x .delay) p q own (h .most) (n .soon .0) in
-        let k : at ≤ latestInput = omega (arith, a, own-most (x .delay) b q 0 (omega arith) (n .soon .1)) in
+    pub owning-more : (q own : ℕ) → Owning q left own → (on half at late new : ℕ) → on ≡ arrivalOf p q → half ≡ max own on
+        → at ≡ arrivalOf b q → late ≡ cond shared at 0 → new ≡ max half late → Owning q (x .next) new
+    owning-more q own h on half at late new o f a l g =
+        let k : at ≤ latestInput = omega (arith, a, arrival-most b (n .soon .1) q, n .soon .1 .1) in
         record {
           walk = n .walk;
-          most = omega (arith, g, f, m, only-most shared at late l k);
+          most = omega (arith, g, f, o, h .most, arrival-most p (n .soon .0) q, n .soon .0 .1, only-most shared at late l k);
           is = λ key j c d e.
-              let one = ap (λ v. leb v (d .start)) f ∙ own-step (x .delay) p q own d e in
-              let at-b = ap (λ v. leb v (d .start)) a ∙ own-step (x .delay) b q 0 d e ∙ and-if _ _ (le-leb 0 (d .start) (omega arith)) in
-              let two = own-if (x .set) set at late (d .start) _ at-b l in
+              let one = ap (λ v. leb v (d .start)) (f ∙ ap (max own) (o ∙ ap (arrivalOf p) (sym e))) ∙ leb-max own _ (d .start) in
+              let two = own-if (x .set) set at late (d .start) _ (ap (λ v. leb v (d .start)) (a ∙ ap (arrivalOf b) (sym e))) l in
               let step = ap (λ v. leb v (d .start)) g ∙ leb-max half late (d .start) ∙ ap₂ (λ u v. u and v) one two ∙ and-join _ _ _ in
               ap (λ v. v and fed key j (x .next) d) step ∙ and-join _ _ _
               ∙ ap (λ v. leb own (d .start) and v) (and-swap _ _ ∙ sym (n .all key j c (fedBy set d)))
@@ -241,7 +231,7 @@ module _ (far : Reach) (own : ℕ) where
   ready-most a b q = split (eqb q (far .from)) (λ e. rw e b) (λ e. rw e a)
 
   -- what `gather` gives
-  pub given : (next from delay : List ℕ) (cs : Copies) (last set : ℕ) → Reached next from delay cs last set far
-      → Owned next from delay cs last set (far .from) own → Given next from delay cs last set joined
-  given next from delay cs last set f o =
+  pub given : (next from delay : List ℕ) (rs : Results) (last set : ℕ) → Reached next from delay rs last set far
+      → Owned next from delay rs last set (far .from) own → Given next from delay rs last set joined
+  given next from delay rs last set f o =
       record { most = ready-most (f .most) (o .most); ready = λ key j c. ready-time _ (f .far key j c) (o .own key j c) }

@@ -20,8 +20,7 @@ use Rattle.reader.specs.Sound.{Sound}
 use Rattle.reader.proofs.TestLaws.{split, clash, not-i, not-e, not-true, and-yes, and-no, and-join}
 use Rattle.reader.proofs.FirstLaws.{first-same, every-same}
 use Rattle.rules.specs.declared.Copy.{Copy}
-use Rattle.rules.specs.Copies.{copy, inTime, domain}
-use Rattle.rules.specs.Copies.{delay as delayOfLink}
+use Rattle.rules.specs.Copies.{copy, domain}
 use Rattle.rules.specs.Rules.{Row, row, faultSet, ruleA, ruleReady, ruleB, ruleD, ruleE, ruleF, ruleGBackup}
 use Rattle.rules.specs.Attempts.{_>>=_, _or-refuse_}
 use Rattle.rules.specs.Planner.{earliest, primaryKeeps, primaryMay, backupKeeps, placeTask}
@@ -30,11 +29,10 @@ use Rattle.rules.proofs.EarliestLaws.{earliest-some}
 use Rattle.rules.proofs.FaultSetLaws.{faults-here}
 use Rattle.copies.specs.declared.table.Copies.{Copies}
 use Rattle.copies.specs.Sets.{has, meets, everyNode}
-use Rattle.copies.specs.Arrival.{delayOf, inTimeOf}
 use Rattle.copies.specs.Table.{setAt, rowOf}
 use Rattle.copies.specs.Clash.{free}
 use Rattle.copies.proofs.SetLaws.{has-none, has-both, empty-set}
-use Rattle.copies.proofs.ArrivalLaws.{leb-max, backup-fed}
+use Rattle.copies.proofs.ArrivalLaws.{comes-is, leb-max, backup-fed}
 use Rattle.copies.proofs.ChainLaws.{chain-of, chain-within}
 use Rattle.copies.proofs.ClashLaws.{free-last, free-primary, free-backup}
 use Rattle.planner.specs.declared.inputs.Ready.{Ready}
@@ -48,7 +46,7 @@ use Rattle.planner.specs.Search.{slotCopy, tryAt, bestOf, freeFrom, node
 use Rattle.planner.specs.Inputs.{readyOn, fedBy, Given}
 use Rattle.planner.specs.Faults.{Faulted}
 use Rattle.planner.specs.Tasks.{primaryFrom, Wanted, attempted}
-use Rattle.planner.proofs.SentLaws.{into-every, into-sending, sends, sends-is, into-faults}
+use Rattle.planner.proofs.SentLaws.{outOf, into-every, into-sending, sends, sends-is, into-faults}
 
 -- searches that agree on every place that may count
 gate : (a b x y : Bool) (c : Copy) → (a ≡ true → b ≡ true → x ≡ y) → when (a and b and x) c ≡ when (a and b and y) c
@@ -121,7 +119,7 @@ shuffle true true false false rg x h e = refl
 shuffle true false re false rg x h e = refl
 shuffle false rb re false rg x h e = refl
 
-module _ (next from delay : List ℕ) (cs : Copies) (before last : List ℕ) (want : Want) (w : Wanted next from delay cs before last want) where
+module _ (next from delay : List ℕ) (cs : Copies) (leave before last : List ℕ) (want : Want) (w : Wanted next from delay cs leave before last want) where
   abbrev job : Job
   job = w .job
 
@@ -131,8 +129,8 @@ module _ (next from delay : List ℕ) (cs : Copies) (before last : List ℕ) (wa
   abbrev key : ℕ → ℕ
   key m = link job m .to
 
-  pub want-sending : Sending next from delay cs (want .into)
-  want-sending = into-sending job next from delay j (want .into) (w .into) (w .sound) (w .rows) cs before last (w .beside)
+  pub want-sending : Sending next from delay (outOf cs leave) (want .into)
+  want-sending = into-sending job next from delay j (want .into) (w .into) (w .sound) (w .rows) cs leave before last (w .beside)
 
   -- no clash on the chain of the copy's node, and none at all
   free-all : (m : ℕ) (c : Copy) → c .node < nodes job → free cs m c (getD last (c .node) 0) ≡ free cs m c (2 * w .rows)
@@ -173,7 +171,7 @@ module _ (next from delay : List ℕ) (cs : Copies) (before last : List ℕ) (wa
 
   -- the inputs of a copy of this set
   abbrev Fed : ℕ → Ready → Type 0
-  Fed set r = Given next from delay cs (want .into) set r
+  Fed set r = Given next from delay (outOf cs leave) (want .into) set r
 
   fed-is : (set : ℕ) (r : Ready) → Fed set r → (c : Copy) (t : ℕ → Bool)
       → ((m : ℕ) → m < links job → key m ≡ j → fedBy set c (sends job next cs m) ≡ t m)
@@ -183,7 +181,8 @@ module _ (next from delay : List ℕ) (cs : Copies) (before last : List ℕ) (wa
       given .ready key j (w .into .chain) c
       ∙ into-every job next from delay j (want .into) (w .into) _ (λ m h. rw (ne-eqb (key m) j h))
       ∙ every-same (links job) _ _ (λ m b. split (eqb (key m) j)
-      (λ e. rw e (ap (fedBy set c) (sends-is job next from delay j (want .into) (w .into) cs m b) ∙ h m b (eqb-true (key m) j e)))
+      (λ e. let to = eqb-true (key m) j e in rw e (ap (fedBy set c)
+      (sends-is job next from delay j (want .into) (w .into) (w .rows) cs leave (w .beside .leaving) (w .fed) m b to) ∙ h m b to))
       (λ e. rw e))
 
   -- the least start of the primary, whatever its inputs
@@ -207,8 +206,8 @@ module _ (next from delay : List ℕ) (cs : Copies) (before last : List ℕ) (wa
 
     d-is : (c : Copy) → leb (readyOn fed (c .node)) (c .start)
         ≡ every (links job) (λ k. eqb (key k) j implies ruleD job (link job k) (rowOf cs (link job k .from)) c)
-    unfolding ruleD inTime inTimeOf delayOfLink delayOf rowOf _implies_
-    d-is c = fed-is 0 fed given c _ (λ m b e. rw (meets-none (setAt cs (2 * link job m .from + 1))) (and-yes _))
+    unfolding ruleD rowOf _implies_
+    d-is c = fed-is 0 fed given c _ (λ m b e. rw (meets-none (setAt cs (2 * link job m .from + 1))) (and-yes _ ∙ comes-is job (link job m) _ c))
 
     primary-fits : (c : Copy) → c .node < nodes job → c .start < c .finish
         → fits cs last (primarySearch (want .task) (want .count) fed (want .least) (want .shut)) c ≡ may c
@@ -245,9 +244,9 @@ module _ (next from delay : List ℕ) (cs : Copies) (before last : List ℕ) (wa
             (omega (arith, p-found .ends, w .sound .detect-most (p .node) (p-found .node)))
 
         -- with this fault set
-        module _ (set : ℕ) (is-set : Faulted next from delay cs (want .into) p set) where
+        module _ (set : ℕ) (is-set : Faulted next from delay (outOf cs leave) (want .into) p set) where
           faults : has set ≡ faultSet job (rowOf cs) j p
-          faults = into-faults job next from delay j (want .into) (w .into) cs p set is-set
+          faults = into-faults job next from delay j (want .into) (w .into) (w .rows) cs leave (w .beside .leaving) (w .fed) p set is-set
 
           abbrev the-row : Copy → Row
           the-row b = row job (rowOf cs) j p b

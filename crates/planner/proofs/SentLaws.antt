@@ -2,10 +2,10 @@
 use Prim.Native.Nat.{ℕ, _+_, _*_, _≤_, _<_}
 use mathlib.Core.Bool.{Bool, true, false, not}
 use mathlib.Core.List.{List}
-use mathlib.Core.Path.{_≡_, _∙_, ap, fun-ext}
+use mathlib.Core.Path.{_≡_, _∙_, ap, ap₂, fun-ext}
 use lib.Dec.{eqb}
 use lib.ListN.{getD}
-use borrow.Author.Tests.{ne-eqb}
+use borrow.Author.Tests.{eqb-true, ne-eqb}
 use native.Mathlib.Omega.{arith}
 use Rattle.reader.specs.declared.job.Job.{Job}
 use Rattle.reader.specs.Tests.{_and_, _or_}
@@ -13,19 +13,19 @@ use Rattle.reader.specs.First.{every, any}
 use Rattle.reader.specs.Limits.{maxTasks, maxLinks}
 use Rattle.reader.specs.Entries.{tasks, links, link}
 use Rattle.reader.specs.Sound.{Sound}
-use Rattle.reader.proofs.TestLaws.{not-i, and-unless}
+use Rattle.reader.proofs.TestLaws.{split, not-i, and-unless}
 use Rattle.reader.proofs.FirstLaws.{every-rest, any-same}
 use Rattle.rules.specs.declared.Copy.{Copy}
-use Rattle.rules.specs.Copies.{inTime, domain}
-use Rattle.rules.specs.Copies.{delay as delayOfLink}
+use Rattle.rules.specs.Copies.{domain}
 use Rattle.rules.specs.Rules.{strong, carries, faultSet}
 use Rattle.copies.specs.declared.table.Copies.{Copies}
 use Rattle.copies.specs.Sets.{has}
-use Rattle.copies.specs.Arrival.{delayOf, inTimeOf}
+use Rattle.copies.specs.Arrival.{resultOf, resultAt, Leaving}
 use Rattle.copies.specs.Table.{entry, setAt, rowOf}
+use Rattle.copies.proofs.ArrivalLaws.{comes-is, result-is}
 use Rattle.copies.proofs.ChainLaws.{last-most, last-gap, linked-down, chain-of, chain-within}
 use Rattle.planner.specs.declared.senders.Sender.{Sender}
-use Rattle.planner.specs.Senders.{receiver, Sent, Into, senderAt, Sending}
+use Rattle.planner.specs.Senders.{receiver, Sent, Into, Results, results, InBy, senderAt, Sending}
 use Rattle.planner.specs.Faults.{carriesFrom, Faulted}
 use Rattle.planner.specs.Tasks.{Beside}
 
@@ -48,8 +48,13 @@ module _ (job : Job) (last next from delay : List ℕ) (sent : Sent (job .links)
 -- what comes by link m
 abbrev pub sends : Job → List ℕ → Copies → ℕ → Sender
 sends job next cs m =
-    let k = 2 * link job m .from in
-    record { primary = entry cs k; backup = entry cs (k + 1); set = setAt cs (k + 1); delay = link job m .delay; next = getD next m 0 }
+    let l = link job m in
+    let k = 2 * l .from in
+    record { primary = resultOf job l (entry cs k); backup = resultOf job l (entry cs (k + 1)); set = setAt cs (k + 1); next = getD next m 0 }
+
+-- the columns of a table that arrivals go by
+abbrev pub outOf : Copies → List ℕ → Results
+outOf cs leave = results (cs .node) (cs .finish) leave (cs .set)
 
 module _ (job : Job) (next from delay : List ℕ) (j into : ℕ) (i : Into job next from delay j into) where
   into-within : into ≤ links job
@@ -67,28 +72,37 @@ module _ (job : Job) (next from delay : List ℕ) (j into : ℕ) (i : Into job n
   into-any t h = ap not (into-every (λ m. not (t m)) (λ m p. not-i _ (h m p)))
 
   -- beside copies that all end soon
-  pub into-sending : Sound job → (m : ℕ) (cs : Copies) (before last : List ℕ) → Beside job m cs before last → Sending next from delay cs into
-  into-sending sound m cs before last beside k p =
+  pub into-sending : Sound job → (m : ℕ) (cs : Copies) (leave before last : List ℕ) → Beside job m cs leave before last
+      → Sending next from delay (outOf cs leave) into
+  into-sending sound m cs leave before last beside k p =
       let b : k < links job = omega (arith, into-within) in
+      let soon : (e : ℕ) → InBy (resultAt (cs .node) (cs .finish) leave (getD delay k 0) e) =
+      λ e. (omega (arith, beside .after e), omega (arith, i .delays k b, sound .delay-most k b, beside .leaving .soon e)) in
       record {
         room = omega (arith, sound .links-most);
         few = omega (arith, i .froms k b, sound .rise k b, sound .into k b, sound .tasks-most);
         down = linked-down (receiver (job .links)) next into (i .chain .linked) k p;
-        soon = (
-          omega (arith, i .delays k b, sound .delay-most k b, beside .soon (2 * getD from k 0)),
-          omega (arith, i .delays k b, sound .delay-most k b, beside .soon (2 * getD from k 0 + 1)),
-        );
+        soon = (soon (2 * getD from k 0), soon (2 * getD from k 0 + 1));
       }
 
-  module _ (cs : Copies) where
-    pub sends-is : (m : ℕ) → m < links job → senderAt next from delay cs m ≡ sends job next cs m
-    sends-is m b = rw (i .froms m b, i .delays m b)
+  -- where all senders are among the first n tasks of a table
+  module _ (n : ℕ) (cs : Copies) (leave : List ℕ) (leaving : Leaving job (2 * n) cs leave)
+      (fed : (k : ℕ) → k < links job → link job k .to ≡ j → link job k .from < n) where
+    pub sends-is : (m : ℕ) → m < links job → link job m .to ≡ j → senderAt next from delay (outOf cs leave) m ≡ sends job next cs m
+    sends-is m b e =
+        let p = fed m b e in
+        rw (i .froms m b, i .delays m b)
+        (ap₂ (λ p q. record { primary = p; backup = q; set = setAt cs (2 * link job m .from + 1); next = getD next m 0 })
+        (result-is job _ cs leave leaving (link job m) _ (omega arith)) (result-is job _ cs leave leaving (link job m) _ (omega arith)))
 
     -- the fault set by the chain is that of the rules
-    pub into-faults : (p : Copy) (set : ℕ) → Faulted next from delay cs into p set → has set ≡ faultSet job (rowOf cs) j p
-    unfolding faultSet carries strong inTime inTimeOf delayOfLink delayOf rowOf domain
+    pub into-faults : (p : Copy) (set : ℕ) → Faulted next from delay (outOf cs leave) into p set → has set ≡ faultSet job (rowOf cs) j p
+    unfolding faultSet carries strong rowOf domain _and_
     into-faults p set is-set =
         let key : ℕ → ℕ = λ m. link job m .to in
         fun-ext λ q. is-set key j (i .chain) q ∙ ap (λ b. eqb (p .node) q or b)
         (into-any _ (λ m h. and-unless _ _ (ne-eqb (key m) j h))
-        ∙ any-same (links job) _ _ (λ m b. ap (λ x. eqb (key m) j and carriesFrom p q x) (sends-is m b)))
+        ∙ any-same (links job) _ _ (λ m b. split (eqb (key m) j)
+        (λ e. rw e (ap (carriesFrom p q) (sends-is m b (eqb-true (key m) j e))
+        ∙ ap (λ s. not s and has (setAt cs (2 * link job m .from + 1)) q) (comes-is job (link job m) _ p)))
+        (λ e. rw e)))

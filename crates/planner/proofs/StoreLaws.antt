@@ -4,12 +4,13 @@ use mathlib.Core.Bool.{true}
 use mathlib.Core.List.{List}
 use mathlib.Core.Path.{_≡_, refl, sym, _∙_, ap, ap₂, subst, fun-ext}
 use lib.Dec.{eqb}
-use lib.ListN.{getD, length, replicate}
+use lib.ListN.{getD, set, length, replicate}
+use lib.Seq.{getD-set-other}
 use borrow.Author.Tests.{eqb-true, eqb-false}
 use native.Mathlib.Decide.{decLt}
 use native.Mathlib.Omega.{arith}
 use Rattle.reader.specs.declared.job.Job.{Job}
-use Rattle.reader.specs.Limits.{maxNodes, maxStart, maxTime}
+use Rattle.reader.specs.Limits.{maxNodes, maxSend, maxStart, maxTime}
 use Rattle.reader.specs.Entries.{nodes, tasks, link}
 use Rattle.reader.specs.Sound.{Sound}
 use Rattle.reader.proofs.TestLaws.{split, below-suc}
@@ -20,19 +21,21 @@ use Rattle.rules.specs.Rules.{faultSet}
 use Rattle.rules.proofs.TableLaws.{put-same, put-other}
 use Rattle.rules.proofs.FaultSetLaws.{faults-e}
 use Rattle.copies.specs.declared.table.Copies.{Copies}
+use Rattle.copies.specs.Arrival.{leaveOf, Leaving}
 use Rattle.copies.specs.Sets.{has, everyNode}
 use Rattle.copies.specs.Table.{copyCount, entry, setAt, rowOf, emptyCopies, Held}
 use Rattle.copies.proofs.ListMore.{replicated}
+use Rattle.copies.proofs.ArrivalLaws.{leaving-start, leaving-more}
 use Rattle.copies.proofs.ChainLaws.{chained-start, chained-same}
 use Rattle.copies.proofs.TableLaws.{same-row}
 use Rattle.planner.specs.declared.task.Pair.{Pair}
-use Rattle.planner.specs.Tasks.{Beside, pairRow, Bookable, Booked, Chainable, ChainedUp}
+use Rattle.planner.specs.Tasks.{Beside, pairRow, Bookable, Booked, Departing, departed, Chainable, ChainedUp}
 use Rattle.planner.proofs.KeepsLaws.{Found, faults-own}
 
 -- no task is stored yet
-pub beside-start : (job : Job) (before last : List ℕ) → before ≡ replicate copyCount 0 → last ≡ replicate maxNodes 0
-    → Beside job 0 emptyCopies before last
-beside-start job before last b l =
+pub beside-start : (job : Job) (leave before last : List ℕ) → leave ≡ replicate copyCount 0 → before ≡ replicate copyCount 0
+    → last ≡ replicate maxNodes 0 → Beside job 0 emptyCopies leave before last
+beside-start job leave before last o b l =
     record {
       few = omega arith;
       held = record {
@@ -46,6 +49,8 @@ beside-start job before last b l =
       whole = record { node = refl; start = refl; finish = refl; set = refl };
       soon = λ k. omega (arith, replicated {A = ℕ} 0 copyCount k);
       laid = chained-start _ _ _ last before (ap length l) (ap length b) (λ n. ap (λ x. getD x n 0) l ∙ replicated 0 maxNodes n);
+      leaving = leaving-start job emptyCopies leave o;
+      after = λ k. omega (arith, replicated {A = ℕ} 0 copyCount k);
     }
 
 -- r is the table with copies x of task j
@@ -80,8 +85,8 @@ module _ (j : ℕ) (x : Pair) (cs r : Copies) (b : Booked j x cs r) where
       ]
 
 -- task j, with copies x, beside those before it
-module _ (job : Job) (j : ℕ) (cs : Copies) (before last : List ℕ) (sound : Sound job) (beside : Beside job j cs before last) (task-of : j < tasks job)
-    (x : Pair) where
+module _ (job : Job) (j : ℕ) (cs : Copies) (leave before last : List ℕ) (sound : Sound job) (beside : Beside job j cs leave before last)
+    (task-of : j < tasks job) (x : Pair) where
   pub pair-bookable : Bookable cs j x
   pair-bookable = (beside .whole, omega (arith, sound .tasks-most))
 
@@ -92,6 +97,18 @@ module _ (job : Job) (j : ℕ) (cs : Copies) (before last : List ℕ) (sound : S
           room = omega (arith, sound .tasks-most);
           primary = omega (arith, p-found .node, sound .nodes-most);
           backup = omega (arith, q-found .node, sound .nodes-most);
+        }
+
+    -- when its results leave
+    leaves : (c : Copy) → Found job c → leaveOf job c ≤ maxStart + maxTime + maxSend
+    leaves c found = omega (arith, found .ends, sound .send-most (c .node) (found .node))
+
+    pub pair-departing : Departing (job .nodes) j x
+    pair-departing =
+        record {
+          chainable = pair-chainable;
+          primary-fits = omega (arith, leaves (x .primary) p-found);
+          backup-fits = omega (arith, leaves (x .backup) q-found);
         }
 
     module _ (faults-are : faultSet job (rowOf cs) j (x .primary) ≡ has (x .set)) where
@@ -130,8 +147,31 @@ module _ (job : Job) (j : ℕ) (cs : Copies) (before last : List ℕ) (sound : S
               | no y ↦ omega (arith, ap (λ c. c .finish) (b .other k (omega arith) (omega arith)), beside .soon k)
             ]
 
-        pub booked-beside : (before' last' : List ℕ) → ChainedUp j x last before last' before' → Beside job (j + 1) r before' last'
-        booked-beside before' last' up =
+        -- primary, then backup
+        next-leaving : Leaving job (2 * (j + 1)) r (departed (job .nodes) j x leave)
+        next-leaving =
+            let half = leaving-more job (2 * j) cs leave (beside .leaving) r (λ k p. b .other k (omega arith) (omega arith)) (omega (arith, sound .tasks-most))
+            _ (ap (leaveOf job) (sym (b .primary))) (leaves (x .primary) p-found) in
+            let all = leaving-more job (2 * j + 1) r _ half r (λ k p. refl) (omega (arith, sound .tasks-most))
+            _ (ap (leaveOf job) (sym (b .backup))) (leaves (x .backup) q-found) in
+            let e : 2 * j + 1 + 1 ≡ 2 * (j + 1) = omega arith in
+            subst (λ n. Leaving job n r (departed (job .nodes) j x leave)) e all
+
+        next-after : (k : ℕ) → entry r k .finish ≤ getD (departed (job .nodes) j x leave) k 0
+        next-after k =
+            elim (decLt k (2 * (j + 1))) [
+              | yes y ↦ omega (arith, next-leaving .is k y)
+              | no y ↦
+                  let first = leaveOf job (x .primary) in
+                  let second = leaveOf job (x .backup) in
+                  let above = getD-set-other leave (2 * j) k first 0 (omega arith) in
+                  let still = getD-set-other (set leave (2 * j) first) (2 * j + 1) k second 0 (omega arith) in
+                  omega (arith, ap (λ c. c .finish) (b .other k (omega arith) (omega arith)), beside .after k, above, still)
+            ]
+
+        pub booked-beside : (leave' before' last' : List ℕ) → leave' ≡ departed (job .nodes) j x leave → ChainedUp j x last before last' before'
+            → Beside job (j + 1) r leave' before' last'
+        booked-beside leave' before' last' gone up =
             record {
               few = omega (arith, sound .tasks-most);
               held = next-held;
@@ -139,4 +179,6 @@ module _ (job : Job) (j : ℕ) (cs : Copies) (before last : List ℕ) (sound : S
               soon = next-soon;
               laid = up _ (ap (λ c. c .node) (b .primary)) (ap (λ c. c .node) (b .backup))
                   (chained-same _ _ _ _ _ _ _ (λ i w. sym (ap (λ c. c .node) (b .other i (omega arith) (omega arith)))) (beside .laid));
+              leaving = rw gone next-leaving;
+              after = λ k. rw gone (next-after k);
             }

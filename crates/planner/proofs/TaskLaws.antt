@@ -28,10 +28,10 @@ use Rattle.planner.specs.declared.task.Pair.{Pair}
 use Rattle.planner.specs.declared.task.Placing.{Placing}
 use Rattle.planner.specs.declared.task.Placing.the-variants.{At, Nowhere}
 use Rattle.planner.specs.Senders.{Net, Sent}
-use Rattle.planner.specs.Tasks.{wantOf, pairRow, attempted, Bookable, Booked, Chainable, ChainedUp}
+use Rattle.planner.specs.Tasks.{wantOf, pairRow, attempted, Bookable, Booked, Departing, departed, ChainedUp}
 use Rattle.planner.specs.Tasks.{Planning, placesTo, listed, planned}
 use Rattle.planner.proofs.KeepsLaws.{Found, best-found}
-use Rattle.planner.proofs.StoreLaws.{beside-start, pair-bookable, pair-chainable, booked-row, booked-beside}
+use Rattle.planner.proofs.StoreLaws.{beside-start, pair-bookable, pair-departing, booked-row, booked-beside}
 use Rattle.planner.proofs.WantLaws.{Told, told}
 
 -- a refusal stays
@@ -42,11 +42,11 @@ stays job m x h (suc n) p =
     below-suc m (suc n) (omega arith) (λ q. rw (stays job m x h n (omega arith))) (λ q. subst (λ k. placeTasks job anywhere k ≡ refused x) q h)
 
 -- task j, of which `place_task` told a
-module _ (job : Job) (net : Net) (j : ℕ) (cs : Copies) (before last : List ℕ) (so-far : Planning job net j cs before last)
+module _ (job : Job) (net : Net) (j : ℕ) (cs : Copies) (leave before last : List ℕ) (so-far : Planning job net j cs leave before last)
     (task-of : j < tasks job) (want : Want) (is-want : want ≡ wantOf j (task job j) (job .nodes) (nodes job) (getD (net .last) j 0))
-    (a : Placing) (is-a : Told (net .next) (net .from) (net .delay) cs before last want a) where
+    (a : Placing) (is-a : Told (net .next) (net .from) (net .delay) cs leave before last want a) where
   answer : attempted a ≡ placeTask job (anywhere j) j (rowOf cs) j
-  answer = told job _ _ _ _ j cs before last (so-far .sound) (so-far .sent) (so-far .beside) task-of want is-want a is-a
+  answer = told job _ _ _ _ j cs leave before last (so-far .sound) (so-far .sent) (so-far .beside) task-of want is-want a is-a
 
   -- it is placed as x
   module _ (x : Pair) (at-x : a ≡ At x) where
@@ -74,22 +74,23 @@ module _ (job : Job) (net : Net) (j : ℕ) (cs : Copies) (before last : List ℕ
     faults-are = subst (λ c. faultSet job (rowOf cs) j c ≡ has (x .set)) p-is (ap (λ r. r .faults) (best .4))
 
     pub bookable : Bookable cs j x
-    bookable = pair-bookable job j cs before last (so-far .sound) (so-far .beside) task-of x
+    bookable = pair-bookable job j cs leave before last (so-far .sound) (so-far .beside) task-of x
 
-    pub chainable : Chainable j x
-    chainable = pair-chainable job j cs before last (so-far .sound) (so-far .beside) task-of x p-found q-found
+    pub departing : Departing (job .nodes) j x
+    departing = pair-departing job j cs leave before last (so-far .sound) (so-far .beside) task-of x p-found q-found
 
     -- and stored
-    pub plan-more : (r : Copies) → Booked j x cs r → (before' last' : List ℕ) → ChainedUp j x last before last' before'
-        → Planning job net (j + 1) r before' last'
+    pub plan-more : (r : Copies) → Booked j x cs r → (leave' before' last' : List ℕ) → leave' ≡ departed (job .nodes) j x leave
+        → ChainedUp j x last before last' before' → Planning job net (j + 1) r leave' before' last'
     unfolding placeTasks _>>=_
-    plan-more r b before' last' up =
+    plan-more r b leave' before' last' gone up =
         record {
           sound = so-far .sound;
           sent = so-far .sent;
           within = omega arith;
           is = rw (add-one, so-far .is, as-x) (ap placed (sym (booked-row j x cs r b)));
-          beside = booked-beside job j cs before last (so-far .sound) (so-far .beside) task-of x p-found q-found faults-are r b before' last' up;
+          beside = booked-beside job j cs leave before last (so-far .sound) (so-far .beside) task-of x p-found q-found faults-are r b
+              leave' before' last' gone up;
         }
 
   pub plan-stop : (x : Refusal) → a ≡ Nowhere x → (r : Planned) → r ≡ planned (refused x) → r ≡ planned (planner job)
@@ -99,20 +100,21 @@ module _ (job : Job) (net : Net) (j : ℕ) (cs : Copies) (before last : List ℕ
       e ∙ rw (stays job (suc j) x (rw (so-far .is, w)) (tasks job) task-of)
 
 -- the loop over tasks
-pub plan-start : (job : Job) (net : Net) (before last : List ℕ) → Sound job
+pub plan-start : (job : Job) (net : Net) (leave before last : List ℕ) → Sound job
     → Sent (job .links) (links job) (net .last) (net .next) (net .from) (net .delay)
-    → before ≡ replicate copyCount 0 → last ≡ replicate maxNodes 0 → Planning job net 0 emptyCopies before last
+    → leave ≡ replicate copyCount 0 → before ≡ replicate copyCount 0 → last ≡ replicate maxNodes 0
+    → Planning job net 0 emptyCopies leave before last
 unfolding placeTasks
-plan-start job net before last sound sent b l =
+plan-start job net leave before last sound sent o b l =
     record {
       sound = sound;
       sent = sent;
       within = omega arith;
       is = ap placed (sym empty-rows);
-      beside = beside-start job before last b l;
+      beside = beside-start job leave before last o b l;
     }
 
-module _ (job : Job) (net : Net) (j : ℕ) (cs : Copies) (before last : List ℕ) (so-far : Planning job net j cs before last) where
+module _ (job : Job) (net : Net) (j : ℕ) (cs : Copies) (leave before last : List ℕ) (so-far : Planning job net j cs leave before last) where
   pub plan-done : (plan : Plan) → j ≡ tasks job → plan ≡ listed (tasks job) (placesTo (cs .node) (cs .start) (tasks job))
       → (r : Planned) → r ≡ planned (placed plan) → r ≡ planned (planner job)
   unfolding planner plannerWith planOf placesTo placeOf rowOf _>>=_

@@ -7,25 +7,24 @@ use lib.Dec.{eqb}
 use Rattle.reader.specs.Tests.{_and_, _or_}
 use Rattle.reader.specs.First.{any}
 use Rattle.rules.specs.declared.Copy.{Copy}
-use Rattle.copies.specs.declared.table.Copies.{Copies}
 use Rattle.copies.specs.Sets.{has}
 use Rattle.copies.specs.Arrival.{comes}
 use Rattle.copies.specs.Chain.{Chain}
 use Rattle.planner.specs.declared.senders.Sender.{Sender}
-use Rattle.planner.specs.Senders.{senderAt}
+use Rattle.planner.specs.Senders.{Results, senderAt}
 
 -- nothing where the link is strong, else the sender's set
 unfoldable pub carriedOf : Sender → Copy → ℕ
-carriedOf x p = cond (comes (x .delay) (x .backup) p) 0 (x .set)
+carriedOf x p = cond (comes (x .backup) p) 0 (x .set)
 
 -- the link is weak, and q is in its sender's fault set
 abbrev pub carriesFrom : Copy → ℕ → Sender → Bool
-carriesFrom p q x = not (comes (x .delay) (x .backup) p) and has (x .set) q
+carriesFrom p q x = not (comes (x .backup) p) and has (x .set) q
 
-module _ (next from delay : List ℕ) (cs : Copies) (last : ℕ) (p : Copy) where
+module _ (next from delay : List ℕ) (rs : Results) (last : ℕ) (p : Copy) where
   -- by one of the first n links that lead to j
   abbrev pub carriedTo : (ℕ → ℕ) → ℕ → ℕ → ℕ → Bool
-  carriedTo key j n q = any n (λ m. eqb (key m) j and carriesFrom p q (senderAt next from delay cs m))
+  carriedTo key j n q = any n (λ m. eqb (key m) j and carriesFrom p q (senderAt next from delay rs m))
 
   -- along the chain of links that begins at `last`, whatever task it leads to
   abbrev pub Faulted : ℕ → Type 0

@@ -7,13 +7,12 @@ use lib.Dec.{leb, ltb, eqb}
 use Rattle.reader.specs.Tests.{_implies_}
 use Rattle.reader.specs.First.{every}
 use Rattle.rules.specs.declared.Copy.{Copy}
-use Rattle.copies.specs.declared.table.Copies.{Copies}
 use Rattle.copies.specs.Arrival.{fedOf}
 use Rattle.copies.specs.Chain.{Chain}
 use Rattle.planner.specs.declared.senders.Sender.{Sender}
 use Rattle.planner.specs.declared.inputs.Reach.{Reach}
 use Rattle.planner.specs.declared.inputs.Ready.{Ready}
-use Rattle.planner.specs.Senders.{latestInput, senderAt}
+use Rattle.planner.specs.Senders.{Results, latestInput, senderAt}
 
 -- from when all is on node n
 unfoldable pub readyOn : Ready → ℕ → ℕ
@@ -24,7 +23,7 @@ fartherOf r from at = cond (ltb (r .at) at) (record { at = at; from = from }) r
 
 -- what a copy d of this set needs of a sender is there in time
 abbrev pub fedBy : ℕ → Copy → Sender → Bool
-fedBy set d x = fedOf (x .delay) (x .primary) (x .backup) (x .set) d set
+fedBy set d x = fedOf (x .primary) (x .backup) (x .set) d set
 
 -- the latest arrival of what a copy needs
 pub record Farthest (fed : Copy → Bool) (r : Reach) : Type 0 where
@@ -39,10 +38,10 @@ abbrev pub ReadyTime : (Copy → Bool) → Ready → Type 0
 ReadyTime fed r = (d : Copy) → leb (readyOn r (d .node)) (d .start) ≡ fed d
 
 -- for a copy of a set, along the chain of links that begins at `last`, whatever task it leads to
-module _ (next from delay : List ℕ) (cs : Copies) (last set : ℕ) where
+module _ (next from delay : List ℕ) (rs : Results) (last set : ℕ) where
   -- by those of the first n links that lead to j
   abbrev pub allFed : (ℕ → ℕ) → ℕ → ℕ → Copy → Bool
-  allFed key j n d = every n (λ m. eqb (key m) j implies fedBy set d (senderAt next from delay cs m))
+  allFed key j n d = every n (λ m. eqb (key m) j implies fedBy set d (senderAt next from delay rs m))
 
   pub record Reached (r : Reach) : Type 0 where
     pub most : r .at ≤ latestInput

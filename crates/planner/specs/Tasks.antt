@@ -4,7 +4,7 @@ use mathlib.Core.Bool.{Bool, not}
 use mathlib.Core.List.{List}
 use mathlib.Core.Path.{_≡_}
 use lib.Dec.{leb}
-use lib.ListN.{getD, replicate}
+use lib.ListN.{getD, set, replicate}
 use Rattle.reader.specs.declared.job.Job.{Job}
 use Rattle.reader.specs.declared.job.Node.{Node}
 use Rattle.reader.specs.declared.job.Task.{Task}
@@ -14,13 +14,14 @@ use Rattle.reader.specs.declared.refusal.Answer.the-variants.{Done, Refused}
 use Rattle.reader.specs.Tests.{_and_}
 use Rattle.reader.specs.First.{fill}
 use Rattle.reader.specs.Limits.{maxNodes, maxTasks, maxStart, maxTime}
-use Rattle.reader.specs.Entries.{nodes, tasks, links, task, link, noPlace, emptyPlan}
+use Rattle.reader.specs.Entries.{nodes, tasks, links, task, link, noNode, noPlace, emptyPlan}
 use Rattle.reader.specs.Sound.{Sound}
 use Rattle.rules.specs.declared.Copy.{Copy}
 use Rattle.rules.specs.Rules.{Row}
 use Rattle.rules.specs.Attempts.{Attempt, refused, placed}
 use Rattle.rules.specs.Planner.{placeTasks, anywhere}
 use Rattle.copies.specs.declared.table.Copies.{Copies}
+use Rattle.copies.specs.Arrival.{Leaving}
 use Rattle.copies.specs.Sets.{has, everyNode}
 use Rattle.copies.specs.Table.{copyCount, nodeAt, entry, setAt, rowOf, Whole, Held}
 use Rattle.copies.specs.Chain.{Chained}
@@ -39,20 +40,22 @@ primaryFrom least shut p = not (has shut (p .node)) and leb least (p .start)
 abbrev pub Laid : ℕ → Copies → List ℕ → List ℕ → Type 0
 Laid m cs before last = Chained (nodeAt (cs .node)) maxNodes copyCount (2 * m) last before
 
--- what is placed: the copies of the first m tasks
-pub record Beside (job : Job) (m : ℕ) (cs : Copies) (before last : List ℕ) : Type 0 where
+-- what is placed: the copies of the first m tasks; no result leaves before its copy ends
+pub record Beside (job : Job) (m : ℕ) (cs : Copies) (leave before last : List ℕ) : Type 0 where
   pub few : m ≤ maxTasks
   pub held : Held job m cs
   pub whole : Whole cs
   pub soon : (k : ℕ) → getD (cs .finish) k 0 ≤ maxStart + maxTime
   pub laid : Laid m cs before last
+  pub leaving : Leaving job (2 * m) cs leave
+  pub after : (k : ℕ) → getD (cs .finish) k 0 ≤ getD leave k 0
 
 -- what is wanted with the primary anywhere
 abbrev pub wantOf : ℕ → Task → List Node → ℕ → ℕ → Want
 wantOf j task nodes count into = record { number = j; task = task; nodes = nodes; count = count; into = into; least = 0; shut = 0 }
 
 -- what is wanted is a task of some job, whose links stand so by receiver, beside the first `rows` tasks; its senders are among them
-pub record Wanted (next from delay : List ℕ) (cs : Copies) (before last : List ℕ) (want : Want) : Type 0 where
+pub record Wanted (next from delay : List ℕ) (cs : Copies) (leave before last : List ℕ) (want : Want) : Type 0 where
   pub job : Job
   pub rows : ℕ
   pub sound : Sound job
@@ -63,7 +66,7 @@ pub record Wanted (next from delay : List ℕ) (cs : Copies) (before last : List
   pub into : Into job next from delay (want .number) (want .into)
   pub fed : (k : ℕ) → k < links job → link job k .to ≡ want .number → link job k .from < rows
   pub least-most : want .least ≤ latestInput
-  pub beside : Beside job rows cs before last
+  pub beside : Beside job rows cs leave before last
 
 -- both copies as a row, or the refusal
 abbrev pub pairRow : Pair → Row
@@ -88,6 +91,18 @@ ChainedUp j x last before last' before' =
     (key : ℕ → ℕ) → key (2 * j) ≡ x .primary .node → key (2 * j + 1) ≡ x .backup .node
     → Chained key maxNodes copyCount (2 * j) last before → Chained key maxNodes copyCount (2 * (j + 1)) last' before'
 
+-- when the result of a copy leaves, on a rack of these nodes; that of both copies can be noted, and is
+abbrev pub leaveBy : List Node → Copy → ℕ
+leaveBy nodes c = c .finish + getD nodes (c .node) noNode .send
+
+pub record Departing (nodes : List Node) (j : ℕ) (x : Pair) : Type 0 where
+  pub chainable : Chainable j x
+  pub primary-fits : leaveBy nodes (x .primary) < 4_294_967_296
+  pub backup-fits : leaveBy nodes (x .backup) < 4_294_967_296
+
+abbrev pub departed : List Node → ℕ → Pair → List ℕ → List ℕ
+departed nodes j x leave = set (set leave (2 * j) (leaveBy nodes (x .primary))) (2 * j + 1) (leaveBy nodes (x .backup))
+
 -- r is the table with it
 pub record Booked (j : ℕ) (x : Pair) (cs r : Copies) : Type 0 where
   pub whole : Whole r
@@ -99,12 +114,12 @@ pub record Booked (j : ℕ) (x : Pair) (cs r : Copies) : Type 0 where
   pub other-set : (k : ℕ) → (k ≡ 2 * j → ⊥) → (k ≡ 2 * j + 1 → ⊥) → setAt r k ≡ setAt cs k
 
 -- after the first j tasks, with the job's links by receiver
-pub record Planning (job : Job) (net : Net) (j : ℕ) (cs : Copies) (before last : List ℕ) : Type 0 where
+pub record Planning (job : Job) (net : Net) (j : ℕ) (cs : Copies) (leave before last : List ℕ) : Type 0 where
   pub sound : Sound job
   pub sent : Sent (job .links) (links job) (net .last) (net .next) (net .from) (net .delay)
   pub within : j ≤ tasks job
   pub is : placeTasks job anywhere j ≡ placed (rowOf cs)
-  pub beside : Beside job j cs before last
+  pub beside : Beside job j cs leave before last
 
 -- the places of the first n tasks, whose copies have these nodes and starts, and the plan that has them
 abbrev pub placeAt : List ℕ → List ℕ → ℕ → Place

@@ -1,13 +1,12 @@
 // When the inputs of a task are on each node.
 use crate::senders::sender_at;
+use copies::arrival::arrival;
 use copies::arrival::later;
 use copies::arrival::pick;
-use copies::arrival::ready_by;
 use copies::table::Copies;
 use reader::job::Job;
 ghost use mathlib.Core.Path.{_≡_};
-ghost use Rattle.copies.specs.Table.{table};
-ghost use Rattle.planner.specs.Senders.{Sending};
+ghost use Rattle.planner.specs.Senders.{results, Sending};
 ghost use Rattle.planner.specs.Inputs.{readyOn, fartherOf, Reached, Owned, Given};
 
 // The latest arrival, where it is not on the node that it leaves; and that node.
@@ -49,24 +48,24 @@ pub fn farthest<'l, 'c>(
     from: &'l [u32; Job::MAX_LINKS],
     delay: &'l [u32; Job::MAX_LINKS],
     node: &'c [u32; Copies::COUNT],
-    start: &'c [u32; Copies::COUNT],
     finish: &'c [u32; Copies::COUNT],
+    leave: &'c [u32; Copies::COUNT],
     sets: &'c [u32; Copies::COUNT],
     last: usize,
     set: u32,
 ) -> Reach
-    requires { ⌜ Sending (now next) (now from) (now delay) (table (now node) (now start) (now finish) (now sets)) last ⌝ }
+    requires { ⌜ Sending (now next) (now from) (now delay) (results (now node) (now finish) (now leave) (now sets)) last ⌝ }
     ensures { λ r. ⌜ Reached (now (next .entry)) (now (from .entry)) (now (delay .entry))
-        (table (now (node .entry)) (now (start .entry)) (now (finish .entry)) (now (sets .entry))) last set r ⌝ }
+        (results (now (node .entry)) (now (finish .entry)) (now (leave .entry)) (now (sets .entry))) last set r ⌝ }
 {
     let mut reach = Reach { at: 0, from: 0 };
     let mut left = last;
     while left != 0 {
-        let x = sender_at(next, from, delay, node, start, finish, sets, left - 1);
+        let x = sender_at(next, from, delay, node, finish, leave, sets, left - 1);
         let p = x.primary;
         let b = x.backup;
-        let half = farther(reach, p.node, p.finish + x.delay);
-        let late = pick(x.set & set != 0, b.finish + x.delay, 0);
+        let half = farther(reach, p.node, p.away);
+        let late = pick(x.set & set != 0, b.away, 0);
         reach = farther(half, b.node, late);
         left = x.next;
     }
@@ -79,25 +78,23 @@ pub fn own_time<'l, 'c>(
     from: &'l [u32; Job::MAX_LINKS],
     delay: &'l [u32; Job::MAX_LINKS],
     node: &'c [u32; Copies::COUNT],
-    start: &'c [u32; Copies::COUNT],
     finish: &'c [u32; Copies::COUNT],
+    leave: &'c [u32; Copies::COUNT],
     sets: &'c [u32; Copies::COUNT],
     last: usize,
     set: u32,
     to: u32,
 ) -> u32
-    requires { ⌜ Sending (now next) (now from) (now delay) (table (now node) (now start) (now finish) (now sets)) last ⌝ }
+    requires { ⌜ Sending (now next) (now from) (now delay) (results (now node) (now finish) (now leave) (now sets)) last ⌝ }
     ensures { λ r. ⌜ Owned (now (next .entry)) (now (from .entry)) (now (delay .entry))
-        (table (now (node .entry)) (now (start .entry)) (now (finish .entry)) (now (sets .entry))) last set to r ⌝ }
+        (results (now (node .entry)) (now (finish .entry)) (now (leave .entry)) (now (sets .entry))) last set to r ⌝ }
 {
     let mut own: u32 = 0;
     let mut left = last;
     while left != 0 {
-        let x = sender_at(next, from, delay, node, start, finish, sets, left - 1);
-        let p = x.primary;
-        let b = x.backup;
-        let half = ready_by(own, p.finish, x.delay, p.node, to);
-        let late = ready_by(0, b.finish, x.delay, b.node, to);
+        let x = sender_at(next, from, delay, node, finish, leave, sets, left - 1);
+        let half = later(own, arrival(x.primary, to));
+        let late = arrival(x.backup, to);
         own = later(half, pick(x.set & set != 0, late, 0));
         left = x.next;
     }
@@ -110,19 +107,19 @@ pub fn gather<'l, 'c>(
     from: &'l [u32; Job::MAX_LINKS],
     delay: &'l [u32; Job::MAX_LINKS],
     node: &'c [u32; Copies::COUNT],
-    start: &'c [u32; Copies::COUNT],
     finish: &'c [u32; Copies::COUNT],
+    leave: &'c [u32; Copies::COUNT],
     sets: &'c [u32; Copies::COUNT],
     last: usize,
     set: u32,
 ) -> Ready
-    requires { ⌜ Sending (now next) (now from) (now delay) (table (now node) (now start) (now finish) (now sets)) last ⌝ }
+    requires { ⌜ Sending (now next) (now from) (now delay) (results (now node) (now finish) (now leave) (now sets)) last ⌝ }
     ensures { λ r. ⌜ Given (now (next .entry)) (now (from .entry)) (now (delay .entry))
-        (table (now (node .entry)) (now (start .entry)) (now (finish .entry)) (now (sets .entry))) last set r ⌝ }
+        (results (now (node .entry)) (now (finish .entry)) (now (leave .entry)) (now (sets .entry))) last set r ⌝ }
 {
-    let far = farthest(next, from, delay, node, start, finish, sets, last, set);
+    let far = farthest(next, from, delay, node, finish, leave, sets, last, set);
     let to = far.from;
-    let own = own_time(next, from, delay, node, start, finish, sets, last, set, to);
+    let own = own_time(next, from, delay, node, finish, leave, sets, last, set, to);
     Ready {
         node: to,
         own,

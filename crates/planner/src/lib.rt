@@ -6,6 +6,7 @@ use crate::task::Want;
 use crate::task::book;
 use crate::task::chain_up;
 use crate::task::place_task;
+use crate::task::send_off;
 use copies::table::Copies;
 use reader::job::Job;
 use reader::plan::Plan;
@@ -65,6 +66,7 @@ pub fn plan_job(job: Job) -> Planned
     let mut node = [0u32; Copies::COUNT];
     let mut start = [0u32; Copies::COUNT];
     let mut finish = [0u32; Copies::COUNT];
+    let mut leave = [0u32; Copies::COUNT];
     let mut sets = [0u32; Copies::COUNT];
     let mut before = [0usize; Copies::COUNT];
     let mut last = [0usize; Job::MAX_NODES];
@@ -78,6 +80,7 @@ pub fn plan_job(job: Job) -> Planned
             &node,
             &start,
             &finish,
+            &leave,
             &sets,
             &before,
             &last,
@@ -87,6 +90,7 @@ pub fn plan_job(job: Job) -> Planned
             Placing::Nowhere(r) => return unplanned(r),
             Placing::At(pair) => {
                 book(&mut node, &mut start, &mut finish, &mut sets, j, pair);
+                send_off(&mut leave, job.nodes, j, pair);
                 chain_up(&mut before, &mut last, j, pair);
             }
         }

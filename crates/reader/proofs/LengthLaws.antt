@@ -17,10 +17,10 @@ use Rattle.reader.specs.Fields.{nodeFields, taskFields, reaches, widthIf
 use Rattle.reader.proofs.VersionLaws.{width-most}
 use Rattle.reader.proofs.Accepted.{GoodJob, GoodPlan, job-good, plan-good}
 
--- 'the longest job has 10,576 bytes', and 10,832 in version 2, the newest
-pub longest-is : (longestJob 1 ≡ 10_576) × (longestJob newestVersion ≡ maxJobLength)
+-- 'the longest job has 10,576 bytes', 10,832 in version 2, and 10,896 in version 3, the newest
+pub longest-is : (longestJob 1 ≡ 10_576) × (longestJob 2 ≡ 10_832) × (longestJob newestVersion ≡ maxJobLength)
 unfolding nodeWidth taskWidth width nodeFields taskFields reaches widthIf
-longest-is = (refl, refl)
+longest-is = (refl, refl, refl)
 
 -- entries have few fields
 pub fields-wide : (length nodeFields ≤ 8) × (length taskFields ≤ 8)

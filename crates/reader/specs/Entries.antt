@@ -22,7 +22,7 @@ links job = job .«link_count»
 
 -- entries that are all 0
 abbrev pub noNode : Node
-noNode = record { detect = 0 }
+noNode = record { detect = 0; send = 0 }
 
 abbrev pub noTask : Task
 noTask = record { ready = 0; deadline = 0; run = [] }
@@ -33,12 +33,15 @@ noLink = record { from = 0; to = 0; delay = 0 }
 abbrev pub noPlace : Place
 noPlace = record { «primary_node» = 0; «primary_start» = 0; «backup_node» = 0; «backup_start» = 0 }
 
--- node n, and its detect time
+-- node n, its detect time, and its send time
 abbrev pub node : Job → ℕ → Node
 node job n = getD (job .nodes) n noNode
 
 abbrev pub detect : Job → ℕ → ℕ
 detect job n = node job n .detect
+
+abbrev pub send : Job → ℕ → ℕ
+send job n = node job n .send
 
 -- task j, its ready time, its deadline, and its run time on node n
 abbrev pub task : Job → ℕ → Task

@@ -2,16 +2,19 @@
 use Prim.Native.Nat.{ℕ}
 use Rattle.reader.specs.declared.limits.Limits.{Limits}
 
--- job 'version (1)', and 'job version 2' of request (ii)
+-- job 'version (1)', and 'job version 2', 'job version 3' of requests (ii) and (iv)
 abbrev pub firstVersion : ℕ
 firstVersion = 1
 
 abbrev pub newestVersion : ℕ
-newestVersion = 2
+newestVersion = 3
 
--- the first version with a ready time
+-- the first versions with a ready time, and with a send time
 abbrev pub readySince : ℕ
 readySince = 2
+
+abbrev pub sendSince : ℕ
+sendSince = 3
 
 -- plan 'version (1)'
 abbrev pub planVersion : ℕ
@@ -27,6 +30,10 @@ maxNodes = 16
 -- 'per node its detect time (0 to 1,000)'
 abbrev pub maxDetect : ℕ
 maxDetect = 1_000
+
+-- (iv) 'to each node a send time (0 to 1,000)'
+abbrev pub maxSend : ℕ
+maxSend = 1_000
 
 -- 'task count N (1 to 64)'
 abbrev pub minTasks : ℕ
@@ -51,9 +58,9 @@ maxTime = 1_000_000
 abbrev pub maxStart : ℕ
 maxStart = 1_000_000
 
--- 'the longest job has 10,576 bytes' in version 1, and 10,832 in version 2 (`longestJob`)
+-- 'the longest job has 10,576 bytes' in version 1, 10,832 in version 2 and 10,896 in version 3 (`longestJob`)
 abbrev pub maxJobLength : ℕ
-maxJobLength = 10_832
+maxJobLength = 10_896
 
 -- 'the file has 8 + 16 × N bytes', N at most 64
 abbrev pub maxPlanLength : ℕ
@@ -65,9 +72,11 @@ limits = record {
   «first_version» = firstVersion;
   «newest_version» = newestVersion;
   «ready_since» = readySince;
+  «send_since» = sendSince;
   «min_nodes» = minNodes;
   «max_nodes» = maxNodes;
   «max_detect» = maxDetect;
+  «max_send» = maxSend;
   «min_tasks» = minTasks;
   «max_tasks» = maxTasks;
   «min_deadline» = minDeadline;

@@ -1,4 +1,4 @@
--- The jobs and plans of document 01's samples, and of those of request (ii).
+-- The jobs and plans of document 01's samples, and of those of requests (ii) and (iv).
 use Prim.Native.Nat.{ℕ}
 use mathlib.Core.List.{List, [], _∷_}
 use lib.ListN.{length, getD, replicate}
@@ -23,18 +23,25 @@ readyTask ready deadline run = record { ready = ready; deadline = deadline; run 
 abbrev pub taskOf : ℕ → ℕ → Task
 taskOf = readyTask 0
 
--- 3 nodes with detect 1, these tasks and these links, in this version
-abbrev pub jobIn : ℕ → List Task → List Link → Job
-jobIn version ts ls =
+-- a node with detect 1 and this send time
+abbrev pub sendNode : ℕ → Node
+sendNode send = record { detect = 1; send = send }
+
+-- 3 nodes with detect 1 and these send times, these tasks and these links, in this version
+abbrev pub sendingIn : ℕ → ℕ → ℕ → ℕ → List Task → List Link → Job
+sendingIn version a b c ts ls =
     record {
       version = version;
       «node_count» = 3;
-      nodes = array maxNodes noNode (let n : Node = record { detect = 1 } in n ∷ n ∷ n ∷ []);
+      nodes = array maxNodes noNode (sendNode a ∷ sendNode b ∷ sendNode c ∷ []);
       «task_count» = length ts;
       tasks = array maxTasks blankTask ts;
       «link_count» = length ls;
       links = array maxLinks noLink ls;
     }
+
+abbrev pub jobIn : ℕ → List Task → List Link → Job
+jobIn version = sendingIn version 0 0 0
 
 abbrev pub jobOf : List Task → List Link → Job
 jobOf = jobIn 1
@@ -63,6 +70,13 @@ JIn version a b = jobIn version (readyTask a 30 4 ∷ readyTask b 30 3 ∷ []) (
 
 abbrev pub JReady : ℕ → ℕ → Job
 JReady = JIn 2
+
+-- J in another version, with these send times; and in version 3
+abbrev pub JSendingIn : ℕ → ℕ → ℕ → ℕ → Job
+JSendingIn version a b c = sendingIn version a b c (taskOf 30 4 ∷ taskOf 30 3 ∷ []) (linkOf 0 1 2 ∷ [])
+
+abbrev pub JSending : ℕ → ℕ → ℕ → Job
+JSending = JSendingIn 3
 
 abbrev pub JWithoutLink : Job
 JWithoutLink = twoTasks 30 []

@@ -4,6 +4,7 @@ ghost use Rattle.reader.specs.Entries.{emptyJob};
 
 pub struct Node {
     pub detect: u32,
+    pub send: u32,
 }
 
 // A run time of 0 says that the node cannot run the task.
@@ -33,16 +34,20 @@ pub struct Job {
 impl Job {
     pub const FIRST_VERSION: usize = 1;
 
-    pub const NEWEST_VERSION: usize = 2;
+    pub const NEWEST_VERSION: usize = 3;
 
     // The versions with which fields came.
     pub const READY_SINCE: usize = 2;
+
+    pub const SEND_SINCE: usize = 3;
 
     pub const MIN_NODES: usize = 2;
 
     pub const MAX_NODES: usize = 16;
 
     pub const MAX_DETECT: usize = 1000;
+
+    pub const MAX_SEND: usize = 1000;
 
     pub const MIN_TASKS: usize = 1;
 
@@ -56,12 +61,12 @@ impl Job {
     pub const MAX_TIME: usize = 1_000_000;
 
     // Bytes of the longest file.
-    pub const MAX_LENGTH: usize = 10_832;
+    pub const MAX_LENGTH: usize = 10_896;
 
     pub fn empty() -> Job
         ensures { λ r. ⌜ r ≡ emptyJob ⌝ }
     {
-        let node = Node { detect: 0 };
+        let node = Node { detect: 0, send: 0 };
         let task = Task {
             ready: 0,
             deadline: 0,

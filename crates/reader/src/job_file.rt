@@ -92,7 +92,7 @@ fn width_if(has: bool) -> usize
 fn no_node(answer: Answer) -> OneNode
     ensures { λ r. ⌜ (r .answer ≡ answer) × (r .end ≡ 0) ⌝ }
 {
-    let node = Node { detect: 0 };
+    let node = Node { detect: 0, send: 0 };
     OneNode {
         answer,
         end: 0,
@@ -100,7 +100,7 @@ fn no_node(answer: Answer) -> OneNode
     }
 }
 
-// One node at an offset: its detect time, in every version.
+// One node at an offset: its detect time, in every version, and its send time where the version has it.
 fn read_node(file: &[u8], version: usize, at: usize) -> OneNode
     requires { ⌜ at ≤ 16384 ⌝ }
     ensures { λ r. ⌜ r .end ≤ at + 32 ⌝ }
@@ -111,17 +111,22 @@ fn read_node(file: &[u8], version: usize, at: usize) -> OneNode
     let Number::Is(detect) = d else {
         return no_node(handed_on(d));
     };
+    let has = Job::SEND_SINCE <= version;
+    let s = field_if(file, 0, at + 4, has, Job::MAX_SEND, 0);
+    let Number::Is(send) = s else {
+        return no_node(handed_on(s));
+    };
     OneNode {
         answer: Answer::Done,
-        end: at + 4,
-        node: Node { detect },
+        end: at + 4 + width_if(has),
+        node: Node { detect, send },
     }
 }
 
 fn no_nodes(answer: Answer) -> Nodes
     ensures { λ r. ⌜ (r .answer ≡ answer) × (r .end ≡ 0) × (r .count ≡ 0) × (r .list ≡ replicate maxNodes noNode) ⌝ }
 {
-    let none = Node { detect: 0 };
+    let none = Node { detect: 0, send: 0 };
     Nodes {
         answer,
         end: 0,

@@ -12,14 +12,15 @@ use Rattle.reader.specs.declared.plan.Plan.{Plan}
 use Rattle.reader.specs.Tests.{_and_, _implies_}
 use Rattle.reader.specs.First.{fill}
 use Rattle.reader.specs.Limits.{maxTasks, maxStart}
-use Rattle.reader.specs.Entries.{tasks, links, task, link, place}
+use Rattle.reader.specs.Entries.{nodes, tasks, links, send, task, link, place}
 use Rattle.reader.specs.Sound.{Sound, PlanSound}
 use Rattle.rules.specs.declared.Copy.{Copy}
 use Rattle.rules.specs.declared.Loss.{Loss}
 use Rattle.rules.specs.Rules.{Row, rows, ruleReady}
 use Rattle.rules.specs.Replay.{TaskRun, arrived, fed, runTask, replay}
 use Rattle.rules.proofs.FaultSetLaws.{runs-own}
-use Rattle.copies.specs.Arrival.{delayOf, SumFits}
+use Rattle.copies.specs.declared.arrival.Result.{Result}
+use Rattle.copies.specs.Arrival.{arrivalOf, resultOf, SumFits}
 use Rattle.copies.proofs.ArrivalLaws.{leb-max}
 use Rattle.replay.specs.declared.states.Pair.{Pair}
 use Rattle.replay.specs.declared.states.Outcome.{Outcome}
@@ -32,7 +33,7 @@ use Rattle.replay.specs.Progress.{zeros, started}
 use Rattle.reader.proofs.FirstLaws.{every-rest}
 use Rattle.reader.proofs.FillLaws.{filled-more, filled-at}
 use Rattle.replay.proofs.LinkOrder.{ahead}
-use Rattle.replay.proofs.InputLaws.{sent-arrives, sent-most}
+use Rattle.replay.proofs.InputLaws.{sender, sent-arrives, sent-most, sent-below}
 use Rattle.replay.proofs.PairLaws.{once-finished, run-pair, pair, primary-is, backup-is, detected-is, primary-ends, backup-ends, finish-most}
 use Rattle.replay.proofs.ReadyLaws.{Tested, tested-start, tested-more}
 
@@ -108,31 +109,38 @@ module _ (job : Job) (plan : Plan) (loss : Loss) (both : Sound job × PlanSound 
       node-is : getD (r .node) i 0 ≡ sentFrom (replayed job plan loss i) (place plan i)
       node-is = filled-at _ maxTasks 0 (r .node) j i 0 (u .node-is) settled (omega (arith, u .within, sound .tasks-most))
 
-      pub sent-fits : SumFits (getD (r .at) i 0) (link job k .delay)
+      pub node-below : getD (r .node) i 0 < nodes job
+      node-below = rw node-is (sent-below _ (place plan i) _ (both .1 .primary-node i i-below) (both .1 .backup-node i i-below))
+
+      -- both sums fit
+      pub sent-fits : SumFits (getD (r .at) i 0 + send job (getD (r .node) i 0)) (link job k .delay)
       unfolding outcome
       sent-fits =
           let most = sent-most (replayed job plan loss i) (omega (arith, finish-most job plan both i i-below (R i))) in
-          rw at-is (omega (arith, most, sound .delay-most k more))
+          rw at-is (omega (arith, most, sound .send-most _ node-below, sound .delay-most k more))
+
+      abbrev result : Result
+      result = resultOf job (link job k) (sender (getD (r .node) i 0) (getD (r .at) i 0))
 
       -- the ready time of the receiver, for the copies c
-      ready-more : (c : ℕ → Copy) (ready : List ℕ) (n v : ℕ) → Ready job plan loss c k ready → c to .node ≡ n → c to .start ≤ maxStart
-          → v ≡ max (getD ready to 0) (getD (r .at) i 0 + delayOf (link job k .delay) (getD (r .node) i 0) n)
+      ready-more : (c : ℕ → Copy) (ready : List ℕ) (n v a : ℕ) → Ready job plan loss c k ready → c to .node ≡ n → c to .start ≤ maxStart
+          → a ≡ arrivalOf result n → v ≡ max (getD ready to 0) a
           → Ready job plan loss c (k + 1) (set ready to v)
       unfolding _implies_
-      ready-more c ready n v h en starts e =
-          tested-more (λ t. c t .start) _ k to ready v _ (to-fits job sound k more) h e
-          (rw (at-is, node-is, ← en, eq-eqb to to refl)
+      ready-more c ready n v a h en starts ea e =
+          tested-more (λ t. c t .start) _ k to ready v a (to-fits job sound k more) h e
+          (rw (ea, at-is, node-is, ← en, eq-eqb to to refl)
           (sent-arrives job (link job k) (T i) (place plan i) (R i) (c to)
           (ap (λ c. c .node) (primary-is job plan both i i-below)) (ap (λ c. c .node) (backup-is job plan both i i-below))
           (primary-ends job plan both i i-below .0) (backup-ends job plan both i i-below .0)
           (once-finished job T loss R i (R i) (run-own i i-below)) starts))
           (λ t away. rw (ne-eqb to t away))
 
-      pub upto-sent : (a b : ℕ)
-          → a ≡ max (getD (r .primary) to 0) (getD (r .at) i 0 + delayOf (link job k .delay) (getD (r .node) i 0) (place plan to .«primary_node»))
-          → b ≡ max (getD (r .backup) to 0) (getD (r .at) i 0 + delayOf (link job k .delay) (getD (r .node) i 0) (place plan to .«backup_node»))
+      pub upto-sent : (a b v w : ℕ)
+          → v ≡ arrivalOf result (place plan to .«primary_node») → a ≡ max (getD (r .primary) to 0) v
+          → w ≡ arrivalOf result (place plan to .«backup_node») → b ≡ max (getD (r .backup) to 0) w
           → Upto job plan loss j (k + 1) (record { of = r .of; at = r .at; node = r .node; primary = set (r .primary) to a; backup = set (r .backup) to b })
-      upto-sent a b ea eb =
+      upto-sent a b v w ev ea ew eb =
           let below = sound .into k more in
           let p = primary-is job plan both to below in
           let q = backup-is job plan both to below in
@@ -143,8 +151,9 @@ module _ (job : Job) (plan : Plan) (loss : Loss) (both : Sound job × PlanSound 
             at-is = u .at-is;
             node-is = u .node-is;
             primary-ready =
-                ready-more (λ t. T t .primary) (r .primary) _ a (u .primary-ready) (ap (λ c. c .node) p) (rw p (both .1 .primary-start to below)) ea;
-            backup-ready = ready-more (λ t. T t .backup) (r .backup) _ b (u .backup-ready) (ap (λ c. c .node) q) (rw q (both .1 .backup-start to below)) eb;
+                ready-more (λ t. T t .primary) (r .primary) _ a v (u .primary-ready) (ap (λ c. c .node) p) (rw p (both .1 .primary-start to below)) ev ea;
+            backup-ready =
+                ready-more (λ t. T t .backup) (r .backup) _ b w (u .backup-ready) (ap (λ c. c .node) q) (rw q (both .1 .backup-start to below)) ew eb;
           }
 
     -- task j is settled: no link is left that could feed it

@@ -11,8 +11,9 @@ use crate::states::Outcome;
 use crate::states::pair_of;
 use crate::states::settle;
 use crate::write::write_outcomes;
+use copies::arrival::Result;
+use copies::arrival::arrival;
 use copies::arrival::later;
-use copies::arrival::ready_by;
 use reader::job::Job;
 use reader::plan::Plan;
 use rules::Loss;
@@ -47,8 +48,14 @@ pub fn replay_plan(job: Job, plan: Plan, loss: Loss) -> Outcomes
             if i < j {
                 let t = l.to as usize;
                 let x = plan.places[t];
-                r.primary[t] = ready_by(r.primary[t], r.at[i], l.delay, r.node[i], x.primary_node);
-                r.backup[t] = ready_by(r.backup[t], r.at[i], l.delay, r.node[i], x.backup_node);
+                let node = r.node[i];
+                let q = node as usize;
+                let sender = job.nodes[q];
+                let here = r.at[i];
+                let away = here + sender.send + l.delay;
+                let result = Result { node, here, away };
+                r.primary[t] = later(r.primary[t], arrival(result, x.primary_node));
+                r.backup[t] = later(r.backup[t], arrival(result, x.backup_node));
                 k += 1;
                 continue;
             }

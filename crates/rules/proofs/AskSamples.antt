@@ -3,7 +3,7 @@ use mathlib.Core.Path.{_≡_, refl}
 use Rattle.reader.specs.declared.refusal.Refusal.the-variants.{NoBackup, Stale}
 use Rattle.reader.specs.Sound.{below}
 use Rattle.reader.specs.declared.refusal.Answer.the-variants.{Done}
-use Rattle.reader.specs.Samples.{at, J, plan1}
+use Rattle.reader.specs.Samples.{at, J, JSending, plan1}
 use Rattle.rules.specs.Judge.{judge}
 use Rattle.rules.specs.Attempts.{refused, placed}
 use Rattle.rules.specs.Longer.{takesNew, newBefore, mergedLink, longerJob, longerPlan}
@@ -19,6 +19,11 @@ links-merged = refl
 pub asked-third : ask J plan1 (third 30) ≡ placed (at 0 7 1 12)
 unfolding computed below takesNew newBefore mergedLink longerJob ask
 asked-third = refl
+
+-- (iv): the result of task 1's primary leaves node 0 after 3 ticks, and is on node 1 at 13
+pub asked-sending : ask (JSending 3 0 0) plan1 (third 30) ≡ placed (at 0 7 1 13)
+unfolding computed below takesNew newBefore mergedLink longerJob ask
+asked-sending = refl
 
 pub asked-too-late : ask J plan1 (third 12) ≡ refused (NoBackup 2)
 unfolding computed below takesNew newBefore mergedLink longerJob ask

@@ -96,6 +96,8 @@ module _ (job : Job) (d : Description) (room : Room job d) where
             nodes-least = sound .nodes-least;
             nodes-most = sound .nodes-most;
             detect-most = sound .detect-most;
+            send-most = sound .send-most;
+            send-lacks = sound .send-lacks;
             tasks-least = omega arith;
             tasks-most = room .tasks-fit;
             ready-most = λ j p. tasks-sound j p .ready-most;

@@ -32,7 +32,7 @@ module _ (a b : Job) (same : SameNodes a b) where
 
   pub delay-same : (l : Link) (c d : Copy) → delay a l c d ≡ delay b l c d
   unfolding delay
-  delay-same l c d = refl
+  delay-same l c d = rw (same .list)
 
   pub in-time-same : (l : Link) (c d : Copy) → inTime a l c d ≡ inTime b l c d
   unfolding inTime

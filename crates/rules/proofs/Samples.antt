@@ -1,4 +1,4 @@
--- The starred samples of document 01 as one table, from the definitions by computation.
+-- The starred samples of document 01 as one table, and those of requests (ii) and (iv), from the definitions by computation.
 use mathlib.Core.Path.{_≡_, refl}
 use Rattle.reader.specs.Tests.{_and_, _or_, _implies_}
 use Rattle.reader.specs.First.{_or-else_, first, unless, when, every, any, fill}
@@ -13,7 +13,7 @@ use Rattle.rules.specs.Replay.{replay, finishOf}
 use Rattle.rules.specs.Attempts.{_>>=_, _or-refuse_}
 use Rattle.rules.specs.Planner
 use Rattle.rules.specs.Planner.{planner}
-use Rattle.rules.specs.Samples.{table, readyTable, asked, answers}
+use Rattle.rules.specs.Samples.{table, readyTable, sendTable, asked, answers}
 
 -- all that the samples compute with
 unfoldable pub computed : Unit {0}
@@ -25,7 +25,7 @@ unfolding _and_ _or_ _implies_ _or-else_ first unless when every any fill put gr
     planner
 computed = tt
 
--- each question of the two tables is answered so
+-- each question of the tables is answered so
 pub samples : asked table ≡ answers table
 unfolding computed
 samples = refl
@@ -33,3 +33,7 @@ samples = refl
 pub ready-samples : asked readyTable ≡ answers readyTable
 unfolding computed
 ready-samples = refl
+
+pub send-samples : asked sendTable ≡ answers sendTable
+unfolding computed
+send-samples = refl

@@ -5,7 +5,7 @@ use lib.Dec.{leb, ltb, eqb}
 use Rattle.reader.specs.declared.job.Job.{Job}
 use Rattle.reader.specs.declared.job.Link.{Link}
 use Rattle.reader.specs.Tests.{_and_}
-use Rattle.reader.specs.Entries.{nodes, run}
+use Rattle.reader.specs.Entries.{nodes, send, run}
 use Rattle.rules.specs.declared.Copy.{Copy}
 
 -- 'A copy of task j on node n takes the listed run time and finishes at start plus run time.'
@@ -20,9 +20,9 @@ HeldBy c tick = (c .start ≤ tick) × (tick < c .finish)
 unfoldable pub overlap : Copy → Copy → Bool
 overlap c d = eqb (c .node) (d .node) and ltb (max (c .start) (d .start)) (min (c .finish) (d .finish))
 
--- 'The delay from a copy of i to a copy of j is 0 on one node, else the link's delay.'
+-- 'The delay from a copy of i to a copy of j is 0 on one node, else the link's delay'; (iv) 'link delay plus the sender's send time'
 unfoldable pub delay : Job → Link → Copy → Copy → ℕ
-delay job l c d = cond (eqb (c .node) (d .node)) 0 (l .delay)
+delay job l c d = cond (eqb (c .node) (d .node)) 0 (l .delay + send job (c .node))
 
 -- c's finish plus the delay is at most d's start
 unfoldable pub inTime : Job → Link → Copy → Copy → Bool

@@ -1,15 +1,18 @@
--- The starred samples of document 01, as one table of questions and answers; sample 8 as request (i) has it. Those of request (ii) behind them.
+-- The starred samples of document 01, as one table of questions and answers; sample 8 as request (i) has it. Those of requests (ii) and
+-- (iv) behind them.
 use Prim.Native.Nat.{ℕ}
 use mathlib.Core.Bool.{Bool, true, false}
 use mathlib.Core.List.{List, [], _∷_}
 use Rattle.reader.specs.declared.job.Job.{Job}
+use Rattle.reader.specs.declared.job.Task.{Task}
 use Rattle.reader.specs.declared.plan.Plan.{Plan}
 use Rattle.reader.specs.declared.refusal.Answer.{Answer}
 use Rattle.reader.specs.declared.refusal.Answer.the-variants.{Done, Refused}
-use Rattle.reader.specs.Entries.{link}
+use Rattle.reader.specs.Limits.{maxNodes, maxTasks, maxLinks}
+use Rattle.reader.specs.Entries.{noNode, noLink, blankTask, link}
 use Rattle.reader.specs.declared.refusal.Told.{Told}
 use Rattle.reader.specs.Refusals.{told, tell}
-use Rattle.reader.specs.Samples.{at, J, JReady, JWithoutLink, JWithDelay, JWithDeadline, _beside_, plan1}
+use Rattle.reader.specs.Samples.{array, linkOf, at, J, JReady, JSending, JWithoutLink, JWithDelay, JWithDeadline, _beside_, plan1}
 use Rattle.rules.specs.declared.Loss.{Loss}
 use Rattle.rules.specs.declared.Loss.the-variants.{NoLoss, Lost}
 use Rattle.rules.specs.Rules.{rows, strong}
@@ -72,7 +75,10 @@ pub record Sample : Type 0 where
 abbrev sample : ℕ → Question → Outcome → Sample
 sample n q a = record { number = n; question = q; answer = a }
 
--- sample 8's plan
+-- the plans of samples 5 and 8
+abbrev pub plan5 : Plan
+plan5 = at 0 0 1 5 beside at 2 11 0 15
+
 abbrev pub plan8 : Plan
 plan8 = at 0 0 1 5 beside at 1 10 0 14
 
@@ -85,8 +91,8 @@ table =
     ∷ sample 3 (replays J plan1 NoLoss) (ran (wrote 2 0 4) (wrote 2 0 7))
     ∷ sample 4 (judges J (at 0 0 1 5 beside at 2 10 0 15)) (declined (told 13 1 1))
     ∷ sample 4 (isStrong J (at 0 0 1 5 beside at 2 10 0 15) 0) (is false)
-    ∷ sample 5 (isStrong J (at 0 0 1 5 beside at 2 11 0 15) 0) (is true)
-    ∷ sample 5 (judges J (at 0 0 1 5 beside at 2 11 0 15)) passed
+    ∷ sample 5 (isStrong J plan5 0) (is true)
+    ∷ sample 5 (judges J plan5) passed
     ∷ sample 6 (judges JWithoutLink (at 0 0 2 5 beside at 1 0 2 4)) passed
     ∷ sample 7 (judges JWithoutLink (at 0 0 2 8 beside at 0 4 2 8)) (declined (told 14 0 1))
     ∷ sample 7 (judges JWithoutLink (at 0 0 2 5 beside at 0 4 2 9)) passed
@@ -109,6 +115,44 @@ readyTable =
     ∷ sample 13 (judges (JReady 0 5) (at 0 0 1 4 beside at 0 4 1 9)) (declined (told 19 1 1))
     ∷ sample 13 (judges (JReady 0 6) (at 0 0 1 5 beside at 0 6 1 5)) (declined (told 9 1 1))
     ∷ sample 14 (replays (JReady 0 10) plan1 NoLoss) (ran (wrote 2 0 4) (wrote 0 2 12))
+    ∷ []
+
+-- two nodes that detect at once, with send times 2 and 0; task 0 run 1 on each, task 1 run 3 and 1, both deadlines 9; link 0 to 1, delay 0
+abbrev quick : List ℕ → Task
+quick run = record { ready = 0; deadline = 9; run = array maxNodes 0 run }
+
+abbrev pub slowCard : Job
+slowCard =
+    record {
+      version = 3;
+      «node_count» = 2;
+      nodes = array maxNodes noNode (record { detect = 0; send = 2 } ∷ record { detect = 0; send = 0 } ∷ []);
+      «task_count» = 2;
+      tasks = array maxTasks blankTask (quick (1 ∷ 1 ∷ []) ∷ quick (3 ∷ 1 ∷ []) ∷ []);
+      «link_count» = 1;
+      links = array maxLinks noLink (linkOf 0 1 0 ∷ []);
+    }
+
+-- (iv): the send time of the sender's node is part of the delay to another node, the receiver's is not, and on one node none is: planner, strong
+-- links and so fault sets, D and E at their last tick and one past it, replay. In 19 a planner that forgets it where it seeks the latest arrival
+-- would put task 1 on node 1 at 2, when the result of task 0 is not yet there
+abbrev pub sendTable : List Sample
+sendTable =
+    sample 15 (plans (JSending 0 9 9)) (planned plan1)
+    ∷ sample 15 (plans (JSending 3 0 0)) (planned plan1)
+    ∷ sample 15 (plans (JSending 4 0 0)) (planned (at 0 0 1 5 beside at 0 4 1 10))
+    ∷ sample 16 (isStrong (JSending 0 0 9) plan5 0) (is true)
+    ∷ sample 16 (judges (JSending 0 0 9) plan5) passed
+    ∷ sample 16 (isStrong (JSending 0 1 0) plan5 0) (is false)
+    ∷ sample 16 (judges (JSending 0 1 0) plan5) (declined (told 13 1 1))
+    ∷ sample 17 (judges (JSending 5 0 0) plan5) passed
+    ∷ sample 17 (judges (JSending 6 0 0) plan5) (declined (told 11 0 1))
+    ∷ sample 17 (judges (JSending 3 0 0) plan1) passed
+    ∷ sample 17 (judges (JSending 4 0 0) plan1) (declined (told 12 0 1))
+    ∷ sample 18 (replays (JSending 3 0 0) plan1 (Lost 0 5)) (ran (wrote 2 0 4) (wrote 1 2 12))
+    ∷ sample 18 (replays (JSending 4 0 0) plan1 (Lost 0 5)) (ran (wrote 2 0 4) (wrote 1 0 0))
+    ∷ sample 19 (plans slowCard) (planned (at 0 0 1 1 beside at 0 1 1 4))
+    ∷ sample 19 (judges slowCard (at 0 0 1 1 beside at 1 2 0 3)) (declined (told 11 0 1))
     ∷ []
 
 abbrev pub asked : List Sample → List Outcome

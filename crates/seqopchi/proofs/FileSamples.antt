@@ -1,4 +1,4 @@
--- The starred samples of document 01, and those of request (ii), at the level of bytes, by computation.
+-- The starred samples of document 01, and those of requests (ii) and (iv), at the level of bytes, by computation.
 use mathlib.Core.Path.{_≡_, refl}
 use mathlib.Core.List.{[]}
 use Rattle.reader.specs.Refusals.{told, packed, result}
@@ -6,7 +6,7 @@ use Rattle.reader.specs.Samples.{J, plan1}
 use Rattle.writer.specs.Write.{jobBytes, planBytes}
 use Rattle.writer.proofs.Samples.{filed}
 use Rattle.rules.specs.declared.Loss.the-variants.{Lost}
-use Rattle.rules.specs.Samples.{table, readyTable}
+use Rattle.rules.specs.Samples.{table, readyTable, sendTable}
 use Rattle.rules.proofs.Samples.{computed}
 use Rattle.replay.specs.Outcomes.{replayBytes}
 use Rattle.replay.specs.States.{outcome}
@@ -26,6 +26,10 @@ file-samples = refl
 pub ready-file-samples : calls readyTable ≡ dues readyTable
 unfolding calculated
 ready-file-samples = refl
+
+pub send-file-samples : calls sendTable ≡ dues sendTable
+unfolding calculated
+send-file-samples = refl
 
 -- 18 before 17: with node 3 of J's three lost and no room at all, the node is named
 pub node-before-room : result (replayFiles (jobBytes J) (planBytes plan1) (Lost 3 0) [] .answer) ≡ packed (told 18 3 0)

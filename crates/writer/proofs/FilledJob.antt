@@ -12,6 +12,7 @@ use Rattle.reader.specs.declared.job.Job.{Job}
 use Rattle.reader.specs.First.{fill}
 use Rattle.reader.specs.Limits.{maxNodes, maxTasks, maxLinks}
 use Rattle.reader.specs.Entries.{nodes, tasks, links, node, task, run, link, noNode, blankTask, noLink}
+use Rattle.reader.specs.Fields.{nodeFrom, taskFrom}
 use Rattle.reader.specs.Sound.{Sound}
 use Rattle.reader.specs.JobFile.{nodeCount, taskCount, linkCount, nodesAt, runAt, taskAt, tasksAt, linksAt, jobFault, jobAt}
 use Rattle.reader.proofs.FillLaws.{fill-same}
@@ -57,7 +58,7 @@ jobWith v p ns n ts m ls =
 
 module _ (a b : Job) (e : SameJob a b) (ha : Sound a) (hb : Sound b) (fa : Filled a) (fb : Filled b) where
   same-node : (n : ℕ) → n < nodes a → node a n ≡ node b n
-  same-node n p = ap (λ xs. record { detect = getD xs 0 0 }) (all-of-node a b e ha hb n p)
+  same-node n p = ap nodeFrom (all-of-node a b e ha hb n p)
 
   same-task : (j : ℕ) → j < tasks a → task a j ≡ task b j
   same-task j p =
@@ -66,7 +67,7 @@ module _ (a b : Job) (e : SameJob a b) (ha : Sound a) (hb : Sound b) (fa : Fille
       ∙ fill-same _ _ (replicate maxNodes 0) (nodes a) (λ n q. same-run a b e j n p q)
       ∙ ap (λ m. fill m (run b j) (replicate maxNodes 0)) (e .node-count)
       ∙ sym (fb .runs-filled j (omega (arith, e .task-count))) in
-      ap₂ (λ xs run. record { ready = getD xs 0 0; deadline = getD xs 1 0; run = run }) (all-of-task a b e ha hb j p) runs
+      ap₂ taskFrom (all-of-task a b e ha hb j p) runs
 
   filled-as : {A : Type 0} (f g : ℕ → A) (l : List A) (m n : ℕ) → m ≡ n → ((i : ℕ) → i < m → f i ≡ g i) → fill m f l ≡ fill n g l
   filled-as f g l m n c h = fill-same f g l m h ∙ ap (λ k. fill k g l) c

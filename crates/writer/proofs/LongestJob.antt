@@ -1,4 +1,5 @@
--- 'the longest job has 10,576 bytes', and 10,832 in version 2: no file that is accepted has more (reader, `job-longest`), and one has as many.
+-- 'the longest job has 10,576 bytes', 10,832 in version 2 and 10,896 in version 3: no file that is accepted has more (reader, `job-longest`), and one has
+-- as many.
 use Prim.Native.Nat.{ℕ, zero, suc, _+_, _/_, _%_, _≤_, _<_}
 use native.Mathlib.Omega.{arith}
 use mathlib.Core.Path.{_≡_, refl, sym}
@@ -72,6 +73,8 @@ long-sound v least most = record {
   nodes-least = omega arith;
   nodes-most = omega arith;
   detect-most = λ n p. rw (getD-replicate maxNodes n noNode noNode p) (omega arith);
+  send-most = λ n p. rw (getD-replicate maxNodes n noNode noNode p) (omega arith);
+  send-lacks = λ n p _. rw (getD-replicate maxNodes n noNode noNode p);
   tasks-least = omega arith;
   tasks-most = omega arith;
   ready-most = λ j p. rw (task-is v j p) (omega arith);

@@ -6,8 +6,8 @@ use mathlib.Core.Bool.{true}
 use lib.ListN.{getD}
 use borrow.Author.Tests.{le-leb}
 use Rattle.reader.specs.declared.job.Job.{Job}
-use Rattle.reader.specs.Limits.{readySince}
-use Rattle.reader.specs.Entries.{nodes, tasks, detect, ready, deadline, run, node, task}
+use Rattle.reader.specs.Limits.{readySince, sendSince}
+use Rattle.reader.specs.Entries.{nodes, tasks, detect, send, ready, deadline, run, node, task}
 use Rattle.reader.specs.Fields.{nodeFields, taskFields, nodeValues, taskValues, reaches, heldIf, held}
 use Rattle.reader.specs.Sound.{Sound}
 use Rattle.reader.proofs.VersionLaws.{AllWithin}
@@ -22,10 +22,15 @@ module _ (a b : Job) (e : SameJob a b) where
   unfolding nodeNumbers nodeFields reaches held heldIf
   same-detect n p = ap (λ l. getD l 0 0) (e .same-node n p)
 
+  -- only from its version on
+  pub same-send : (n : ℕ) → n < nodes a → sendSince ≤ a .version → send a n ≡ send b n
+  unfolding nodeNumbers nodeFields reaches held
+  same-send n p h = if-same _ _ _ _ _ (if-same true _ _ _ _ (e .same-node n p) .1) .0 (le-leb sendSince (a .version) h)
+
   parts : (j : ℕ) → j < tasks a → SameTask (a .version) (nodes a) (task a j) (task b j)
   parts j p = task-parts _ _ _ _ (e .same-task j p)
 
-  -- only from its version on
+  -- the same
   pub same-ready : (j : ℕ) → j < tasks a → readySince ≤ a .version → ready a j ≡ ready b j
   unfolding taskFields reaches held
   same-ready j p h = if-same _ _ _ _ _ (parts j p .fields) .0 (le-leb readySince (a .version) h)

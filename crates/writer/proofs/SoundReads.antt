@@ -40,7 +40,7 @@ pub node-of : (job : Job) → Sound job → (i : ℕ) → i < nodes job → AllW
 unfolding AllWithin nodeFields
 node-of job h i p = (
   within-i _ _ _ (omega arith) (h .detect-most i p) (λ l. absurd (let z : ⊥ = omega arith in z)),
-  refl,
+  (within-i _ _ _ (omega arith) (h .send-most i p) (h .send-lacks i p), refl),
 )
 
 pub task-of : (job : Job) → Sound job → (j : ℕ) → j < tasks job → SoundTask (job .version) (nodes job) (task job j)

@@ -1,4 +1,4 @@
--- Samples of document 01, and of request (ii), that reading and writing decide.
+-- Samples of document 01, and of requests (ii) and (iv), that reading and writing decide.
 use Prim.Native.Nat.{ℕ}
 use mathlib.Core.Path.{_≡_}
 use mathlib.Core.List.{List, [], _∷_, _++_}
@@ -8,7 +8,7 @@ use Rattle.reader.specs.declared.refusal.Answer.the-variants.{Done, Refused}
 use Rattle.reader.specs.declared.refusal.Told.{Told}
 use Rattle.reader.specs.Refusals.{told, tell}
 use Rattle.reader.specs.declared.job.Job.{Job}
-use Rattle.reader.specs.Samples.{readyTask, jobIn, J, JIn, JReady}
+use Rattle.reader.specs.Samples.{readyTask, jobIn, J, JIn, JReady, JSendingIn, JSending}
 use Rattle.reader.specs.JobFile.{readJob, readJobUpTo}
 use Rattle.writer.specs.Write.{pack, jobBytes}
 use Rattle.writer.specs.Equality.{SameJob}
@@ -42,8 +42,17 @@ pub record Versions : Type 0 where
   pub stray-same : SameJob JStray J
   pub stray-read : readJob (jobBytes JStray) .job ≡ J
   pub none : shown (readJob (jobBytes (JIn 0 0 0)) .answer) ≡ told 2 0 0
-  pub later : shown (readJob (jobBytes (JIn 3 0 0)) .answer) ≡ told 2 0 0
+  pub later : shown (readJob (jobBytes (JIn 4 0 0)) .answer) ≡ told 2 0 0
   pub older-reader : shown (readJobUpTo 1 (jobBytes (JReady 0 0)) .answer) ≡ told 2 0 0
   pub ready-most : shown (readJob (jobBytes (JReady 0 1_000_000)) .answer) ≡ told 0 0 0
   pub ready-above : shown (readJob (jobBytes (JReady 0 1_000_001)) .answer) ≡ told 4 44 0
   pub deadline-behind : shown (readJob (jobBytes (jobIn 2 (readyTask 5 30 4 ∷ readyTask 5 0 3 ∷ []) [])) .answer) ≡ told 4 48 0
+
+-- (iv): 'Job version 3 adds to each node a send time (0 to 1,000), after its detect time. .. Versions 1 and 2 read as send 0'; in version 3 the send
+-- time of node 2 of J stands at 28, and the numbers behind the nodes as in version 2
+pub record SendFiles : Type 0 where
+  pub own-version : readJob (jobBytes (JSending 5 0 1_000)) .job ≡ JSending 5 0 1_000
+  pub stray-bytes : jobBytes (JSendingIn 2 5 7 9) ≡ jobBytes (JReady 0 0)
+  pub stray-read : readJob (jobBytes (JSendingIn 1 5 7 9)) .job ≡ J
+  pub older-reader : shown (readJobUpTo 2 (jobBytes (JSending 0 0 0)) .answer) ≡ told 2 0 0
+  pub send-above : shown (readJob (jobBytes (JSending 0 0 1_001)) .answer) ≡ told 4 28 0

@@ -62,12 +62,13 @@ fn put_if(d: &mut [u8], at: usize, has: bool, v: u32) -> usize
     at
 }
 
-// A node: its detect time, in every version.
+// A node: its detect time, in every version, and its send time where the version has it.
 fn put_node(d: &mut [u8], at: usize, version: usize, node: Node) -> usize
     requires { ⌜ at + nodeWidth version ≤ length (now d) ⌝ }
     ensures { λ r. ⌜ Puts (now (d .entry)) at (nodeNumbers version node) (now (d .exit)) r ⌝ }
 {
-    put(d, at, node.detect)
+    let then = put(d, at, node.detect);
+    put_if(d, then, Job::SEND_SINCE <= version, node.send)
 }
 
 // The first nodes, from an offset.

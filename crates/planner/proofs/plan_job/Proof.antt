@@ -9,17 +9,17 @@ use Rattle.planner.specs.Tasks.{Planning}
 use Rattle.planner.proofs.SenderLaws.{sendable, sent-start}
 use Rattle.planner.proofs.SentLaws.{into-few}
 use Rattle.planner.proofs.WantLaws.{asked}
-use Rattle.planner.proofs.TaskLaws.{bookable, chainable, plan-start, plan-more, plan-stop, plan-done}
+use Rattle.planner.proofs.TaskLaws.{bookable, departing, plan-start, plan-more, plan-stop, plan-done}
 use borrow.Author.Needs.{needs}
 use Rattle.planner.proofs.plan_job.Statement.{statement}
 use Rattle.planner.proofs.plan_job.Tie as tie
 
 abbrev Inv-loop : tie.InvT-loop
-Inv-loop job n count into next from delay m node₀ start₀ finish₀ sets₀ before₀ last₀ j₀ node start finish sets before last j =
-    Planning job (record { last = into; next = next; from = from; delay = delay }) j (table node start finish sets) before last
+Inv-loop job n count into next from delay m node₀ start₀ finish₀ leave₀ sets₀ before₀ last₀ j₀ node start finish leave sets before last j =
+    Planning job (record { last = into; next = next; from = from; delay = delay }) j (table node start finish sets) leave before last
 
 abbrev μ-loop : tie.MeasureT-loop
-μ-loop job n count into next from delay m node₀ start₀ finish₀ sets₀ before₀ last₀ j₀ node start finish sets before last j = n - j
+μ-loop job n count into next from delay m node₀ start₀ finish₀ leave₀ sets₀ before₀ last₀ j₀ node start finish leave sets before last j = n - j
 
 by-receiver-requires : tie.Need-by-receiver-requires Inv-loop μ-loop
 by-receiver-requires c κs =
@@ -29,7 +29,7 @@ by-receiver-requires c κs =
 loop-holds : tie.Need-loop-holds Inv-loop μ-loop
 loop-holds c =
     let at-pre = c .before .before .before .before .before .before in
-    plan-start _ _ _ _ (at-pre .pre) (c .by-receiver .ensures) refl refl
+    plan-start _ _ _ _ _ (at-pre .pre) (c .by-receiver .ensures) refl refl refl
 
 cast-of : tie.Need-cast-of Inv-loop μ-loop
 cast-of c =
@@ -38,56 +38,66 @@ cast-of c =
 
 place-task-requires : tie.Need-place-task-requires Inv-loop μ-loop
 place-task-requires c κs =
-    let at-of = c .before .before .before .before .before .before .before .before .before in
+    let at-of = c .before .before .before .before .before .before .before .before .before .before in
     let at-loop-test = at-of .before .before .before in
     let so-far = at-loop-test .before .loop .inv in
-    asked _ _ _ _ _ _ _ _ _ (so-far .sound) (so-far .sent) (so-far .beside) (at-loop-test .loop-test .taken) _ (at-of .of .ensures)
+    asked _ _ _ _ _ _ _ _ _ _ (so-far .sound) (so-far .sent) (so-far .beside) (at-loop-test .loop-test .taken) _ (at-of .of .ensures)
 
 returns : tie.Need-returns Inv-loop μ-loop
 returns c =
     let at-place-task = c .before .before .before .before in
-    let at-of = at-place-task .before .before .before .before .before .before .before .before .before .before in
+    let at-of = at-place-task .before .before .before .before .before .before .before .before .before .before .before in
     let at-loop-test = at-of .before .before .before in
-    plan-stop _ _ _ _ _ _ (at-loop-test .before .loop .inv) (at-loop-test .loop-test .taken) _ (at-of .of .ensures) _
+    plan-stop _ _ _ _ _ _ _ (at-loop-test .before .loop .inv) (at-loop-test .loop-test .taken) _ (at-of .of .ensures) _
     (at-place-task .place-task .ensures) _ (c .before .before .x .given .1) _ (c .unplanned .ensures)
 
 book-requires : tie.Need-book-requires Inv-loop μ-loop
 book-requires c κs =
     let at-x2 = c .before .before .before .before .before in
-    let at-of = at-x2 .before .before .before .before .before .before .before .before .before .before .before .before in
+    let at-of = at-x2 .before .before .before .before .before .before .before .before .before .before .before .before .before in
     let at-loop-test = at-of .before .before .before in
-    bookable _ _ _ _ _ _ (at-loop-test .before .loop .inv) (at-loop-test .loop-test .taken) _ (at-of .of .ensures) _
+    bookable _ _ _ _ _ _ _ (at-loop-test .before .loop .inv) (at-loop-test .loop-test .taken) _ (at-of .of .ensures) _
+    (at-x2 .before .before .place-task .ensures) _ (at-x2 .x2 .given .1)
+
+send-off-requires : tie.Need-send-off-requires Inv-loop μ-loop
+send-off-requires c κs =
+    let at-x2 = c .before .before .before .before .before .before .before .before in
+    let at-of = at-x2 .before .before .before .before .before .before .before .before .before .before .before .before .before in
+    let at-loop-test = at-of .before .before .before in
+    departing _ _ _ _ _ _ _ (at-loop-test .before .loop .inv) (at-loop-test .loop-test .taken) _ (at-of .of .ensures) _
     (at-x2 .before .before .place-task .ensures) _ (at-x2 .x2 .given .1)
 
 chain-up-requires : tie.Need-chain-up-requires Inv-loop μ-loop
 chain-up-requires c κs =
-    let at-x2 = c .before .before .before .before .before .before .before .before in
-    let at-of = at-x2 .before .before .before .before .before .before .before .before .before .before .before .before in
+    let at-x2 = c .before .before .before .before .before .before .before .before .before .before .before in
+    let at-of = at-x2 .before .before .before .before .before .before .before .before .before .before .before .before .before in
     let at-loop-test = at-of .before .before .before in
-    chainable _ _ _ _ _ _ (at-loop-test .before .loop .inv) (at-loop-test .loop-test .taken) _ (at-of .of .ensures) _
-    (at-x2 .before .before .place-task .ensures) _ (at-x2 .x2 .given .1)
+    departing _ _ _ _ _ _ _ (at-loop-test .before .loop .inv) (at-loop-test .loop-test .taken) _ (at-of .of .ensures) _
+    (at-x2 .before .before .place-task .ensures) _ (at-x2 .x2 .given .1) .chainable
 
 add-j : tie.Need-add-j Inv-loop μ-loop
 add-j c =
     let up1 = c .before .before .before .before .before .before .before .before .before .before .before .before .before .before in
-    let at-loop-test = up1 .before .before .before .before .before .before .before .before .before .before in
+    let at-loop-test = up1 .before .before .before .before .before .before .before .before .before .before .before .before .before .before in
     let at-pre = at-loop-test .before .before .before .before .before .before .before .before in
     omega (arith, at-loop-test .loop-test .taken, at-pre .pre .tasks-most)
 
 loop-less : tie.Need-loop-less Inv-loop μ-loop
 loop-less c =
     let up1 = c .before .before .before .before .before .before .before .before .before .before .before .before .before .before in
-    let at-loop-test = up1 .before .before .before .before .before .before .before .before .before .before in
+    let at-loop-test = up1 .before .before .before .before .before .before .before .before .before .before .before .before .before .before in
     omega (arith, at-loop-test .loop-test .taken)
 
 loop-again : tie.Need-loop-again Inv-loop μ-loop
 loop-again c =
-    let at-book = c .before .before .before in
+    let at-send-off = c .before .before .before in
+    let at-book = at-send-off .before .before .before in
     let at-x2 = at-book .before .before .before .before .before .before in
-    let at-of = at-x2 .before .before .before .before .before .before .before .before .before .before .before .before in
+    let at-of = at-x2 .before .before .before .before .before .before .before .before .before .before .before .before .before in
     let at-loop-test = at-of .before .before .before in
-    plan-more _ _ _ _ _ _ (at-loop-test .before .loop .inv) (at-loop-test .loop-test .taken) _ (at-of .of .ensures) _
-    (at-x2 .before .before .place-task .ensures) _ (at-x2 .x2 .given .1) _ (at-book .book .ensures) _ _ (c .chain-up .ensures)
+    plan-more _ _ _ _ _ _ _ (at-loop-test .before .loop .inv) (at-loop-test .loop-test .taken) _ (at-of .of .ensures) _
+    (at-x2 .before .before .place-task .ensures) _ (at-x2 .x2 .given .1) _ (at-book .book .ensures) _ _ _ (at-send-off .send-off .ensures)
+    (c .chain-up .ensures)
 
 plan-of-requires : tie.Need-plan-of-requires Inv-loop μ-loop
 plan-of-requires c κs =
@@ -97,12 +107,12 @@ plan-of-requires c κs =
 returns-2 : tie.Need-returns-2 Inv-loop μ-loop
 returns-2 c =
     let at-loop = c .before .before .before .before .before in
-    plan-done _ _ _ _ _ _ (at-loop .loop .inv) _ (omega arith) (c .before .plan-of .ensures) _ (c .all-planned .ensures)
+    plan-done _ _ _ _ _ _ _ (at-loop .loop .inv) _ (omega arith) (c .before .plan-of .ensures) _ (c .all-planned .ensures)
 
 pub plan-job-spec : {M : Type 1} → statement M
 plan-job-spec =
     tie.close
     (tie.spec Inv-loop μ-loop (λ c. search needs) (λ c. search needs) (λ c. search needs) by-receiver-requires loop-holds (λ c. search needs)
     (λ c. search needs) (λ c. search needs) (λ c. search needs) cast-of (λ c κs. search needs) place-task-requires (λ c. search needs)
-    (λ c κs. search needs) returns (λ c. search needs) book-requires chain-up-requires add-j loop-less loop-again plan-of-requires
+    (λ c κs. search needs) returns (λ c. search needs) book-requires send-off-requires chain-up-requires add-j loop-less loop-again plan-of-requires
     (λ c κs. search needs) returns-2)

@@ -3,7 +3,7 @@ use Prim.Native.Nat.{_+_, _-_}
 use mathlib.Core.Logic.{⊎-elim}
 use native.Mathlib.Omega.{arith}
 use Rattle.reader.specs.Entries.{tasks, links}
-use Rattle.replay.proofs.RunLaws.{Upto, upto-start, upto-sent, upto-settled, upto-done, task-fits, to-fits, sent-fits}
+use Rattle.replay.proofs.RunLaws.{Upto, upto-start, upto-sent, upto-settled, upto-done, task-fits, to-fits, node-below, sent-fits}
 use Rattle.replay.proofs.PairLaws.{fits}
 use borrow.Author.Needs.{needs}
 use Rattle.replay.proofs.replay_plan.Statement.{statement}
@@ -24,52 +24,54 @@ element-copy-out-x c =
     let at-pre = at-if1 .before .before .before .before in
     to-fits _ (at-pre .pre .0) _ (at-if1 .if1 .taken)
 
-element-copy-out-ready-by : tie.Need-element-copy-out-ready-by Inv-loop μ-loop
-element-copy-out-ready-by c =
-    let at-if1 = c .before .before .before .before .before in
-    let at-pre = at-if1 .before .before .before .before in
-    to-fits _ (at-pre .pre .0) _ (at-if1 .if1 .taken)
-
-ready-by-requires : tie.Need-ready-by-requires Inv-loop μ-loop
-ready-by-requires c κs =
-    let at-if2 = c .before .before .before .before .before in
+element-copy-out-sender : tie.Need-element-copy-out-sender Inv-loop μ-loop
+element-copy-out-sender c =
+    let at-if2 = c .before .before .before in
     let at-if1 = at-if2 .before .before .before in
     let at-pre = at-if1 .before .before .before .before in
-    sent-fits _ _ _ (at-pre .pre) _ _ _ (at-if1 .before .before .loop .inv) (at-if1 .if1 .taken) (at-if2 .if2 .taken)
+    let p = node-below _ _ _ (at-pre .pre) _ _ _ (at-if1 .before .before .loop .inv) (at-if1 .if1 .taken) (at-if2 .if2 .taken) in
+    omega (arith, at-pre .pre .0 .nodes-most)
+
+add-away : tie.Need-add-away Inv-loop μ-loop
+add-away c =
+    let at-if2 = c .before .before .before .before .before .before in
+    let at-if1 = at-if2 .before .before .before in
+    let at-pre = at-if1 .before .before .before .before in
+    omega (arith, sent-fits _ _ _ (at-pre .pre) _ _ _ (at-if1 .before .before .loop .inv) (at-if1 .if1 .taken) (at-if2 .if2 .taken))
+
+add-away-2 : tie.Need-add-away-2 Inv-loop μ-loop
+add-away-2 c =
+    let at-if2 = c .before .before .before .before .before .before .before in
+    let at-if1 = at-if2 .before .before .before in
+    let at-pre = at-if1 .before .before .before .before in
+    omega (arith, sent-fits _ _ _ (at-pre .pre) _ _ _ (at-if1 .before .before .loop .inv) (at-if1 .if1 .taken) (at-if2 .if2 .taken))
+
+element-copy-out-later : tie.Need-element-copy-out-later Inv-loop μ-loop
+element-copy-out-later c =
+    let at-if1 = c .before .before .before .before .before .before .before .before .before .before in
+    let at-pre = at-if1 .before .before .before .before in
+    to-fits _ (at-pre .pre .0) _ (at-if1 .if1 .taken)
 
 element-write-r : tie.Need-element-write-r Inv-loop μ-loop
 element-write-r c =
-    let at-if1 = c .before .before .before .before .before .before .before .before .before in
+    let at-if1 = c .before .before .before .before .before .before .before .before .before .before .before .before .before in
     let at-pre = at-if1 .before .before .before .before in
     to-fits _ (at-pre .pre .0) _ (at-if1 .if1 .taken)
-
-element-copy-out-ready-by-4 : tie.Need-element-copy-out-ready-by-4 Inv-loop μ-loop
-element-copy-out-ready-by-4 c =
-    let at-if1 = c .before .before .before .before .before .before .before .before .before in
-    let at-pre = at-if1 .before .before .before .before in
-    to-fits _ (at-pre .pre .0) _ (at-if1 .if1 .taken)
-
-ready-by-requires-2 : tie.Need-ready-by-requires-2 Inv-loop μ-loop
-ready-by-requires-2 c κs =
-    let at-if2 = c .before .before .before .before .before .before .before .before .before in
-    let at-if1 = at-if2 .before .before .before in
-    let at-pre = at-if1 .before .before .before .before in
-    sent-fits _ _ _ (at-pre .pre) _ _ _ (at-if1 .before .before .loop .inv) (at-if1 .if1 .taken) (at-if2 .if2 .taken)
 
 element-write-r-2 : tie.Need-element-write-r-2 Inv-loop μ-loop
 element-write-r-2 c =
-    let at-if1 = c .before .before .before .before .before .before .before .before .before .before .before .before .before in
+    let at-if1 = c .before .before .before .before .before .before .before .before .before .before .before .before .before .before .before .before in
     let at-pre = at-if1 .before .before .before .before in
     to-fits _ (at-pre .pre .0) _ (at-if1 .if1 .taken)
 
 loop-again : tie.Need-loop-again Inv-loop μ-loop
 loop-again c =
-    let at-ready-by = c .before .before .before .before in
-    let at-if2 = at-ready-by .before .before .before .before .before .before in
+    let at-later = c .before .before .before in
+    let at-if2 = at-later .before .before .before .before .before .before .before .before .before .before in
     let at-if1 = at-if2 .before .before .before in
     let at-pre = at-if1 .before .before .before .before in
-    upto-sent _ _ _ (at-pre .pre) _ _ _ (at-if1 .before .before .loop .inv) (at-if1 .if1 .taken) (at-if2 .if2 .taken) _ _
-    (at-ready-by .ready-by .ensures) (c .ready-by2 .ensures)
+    upto-sent _ _ _ (at-pre .pre) _ _ _ (at-if1 .before .before .loop .inv) (at-if1 .if1 .taken) (at-if2 .if2 .taken) _ _ _ _
+    (at-later .before .arrival .ensures) (at-later .later .ensures) (c .before .arrival2 .ensures) (c .later2 .ensures)
 
 element-copy-out-w : tie.Need-element-copy-out-w Inv-loop μ-loop
 element-copy-out-w c =
@@ -120,7 +122,7 @@ loop-again-2 c =
     let at-pre = at-if1 .before .before .before .before in
     upto-settled _ _ _ (at-pre .pre) _ _ _ (at-if1 .before .before .loop .inv) (at-if1 .before .loop-test .taken)
     (⊎-elim (λ w k. omega arith) (λ w k. omega arith) (at-if1 .if1 .came)) _ _ _ _ _ (at-later .before .before .pair-of .ensures)
-    (at-later .later .ensures) (c .before .before .settle .ensures _) (c .before .sent-at .ensures) (c .sent-from .ensures)
+    (at-later .later3 .ensures) (c .before .before .settle .ensures _) (c .before .sent-at .ensures) (c .sent-from .ensures)
 
 returns : tie.Need-returns Inv-loop μ-loop
 returns c =
@@ -132,10 +134,11 @@ replay-plan-spec =
     tie.close
     (tie.spec Inv-loop μ-loop (λ c. search needs) (λ c. search needs) (λ c κs. search needs) loop-holds (λ c. search needs)
     (λ c. search needs) (λ c. search needs) (λ c. search needs) (λ c. search needs) element-copy-out-x (λ c. search needs)
-    element-copy-out-ready-by (λ c. search needs) (λ c. search needs) (λ c. search needs) (λ c. search needs) ready-by-requires
-    (λ c. search needs) element-write-r (λ c. search needs) element-copy-out-ready-by-4 (λ c. search needs) (λ c. search needs)
-    (λ c. search needs) (λ c. search needs) ready-by-requires-2 (λ c. search needs) element-write-r-2 (λ c. search needs) (λ c. search needs)
-    loop-again (λ c. search needs) (λ c. search needs) (λ c. search needs) (λ c. search needs) (λ c. search needs) (λ c. search needs)
+    (λ c. search needs) (λ c. omega (arith, element-copy-out-sender c)) (λ c. omega (arith, element-copy-out-sender c)) element-copy-out-sender
+    (λ c. search needs) (λ c. search needs) add-away add-away-2 (λ c. search needs) element-copy-out-later (λ c κs. search needs)
+    (λ c κs. search needs) (λ c. search needs) element-write-r (λ c. search needs) element-write-r (λ c κs. search needs)
+    (λ c κs. search needs) (λ c. search needs) element-write-r-2 (λ c. search needs) (λ c. search needs) loop-again (λ c. search needs)
+    (λ c. search needs) (λ c. search needs) (λ c. search needs) (λ c. search needs) (λ c. search needs)
     element-copy-out-w pair-of-requires (λ c. search needs) (λ c. search needs) (λ c κs. search needs) (λ c. search needs)
     (λ c. search needs) (λ c κs. search needs) (λ c. search needs) (λ c. search needs) (λ c κs. search needs) mul-r-3 element-write-r-3
     (λ c κs. search needs) mul-r-4 element-write-r-4 add-j (λ c. search needs) loop-again-2 returns)

@@ -9,126 +9,148 @@ use Rattle.copies.specs.Table.{table}
 use Rattle.copies.proofs.ListMore.{replicated}
 use Rattle.planner.proofs.SenderLaws.{sent-start}
 use Rattle.asking.specs.Beside.{StoredTo}
-use Rattle.asking.proofs.BesideLaws.{book-start, merged-sendable, old-few, old-takeable, old-bookable, old-chainable, old-more}
+use Rattle.asking.proofs.BesideLaws.{book-start, merged-sendable, old-few, old-takeable, old-bookable, old-departing, old-more}
 use Rattle.asking.proofs.BesideLaws.{new-few, new-wanted, new-told}
 use borrow.Author.Needs.{needs}
 use Rattle.asking.proofs.beside.place_new.Statement.{statement}
 use Rattle.asking.proofs.beside.place_new.Tie as tie
 
 abbrev Inv-loop : tie.InvT-loop
-Inv-loop d job plan into next from delay old new m node₀ start₀ finish₀ sets₀ before₀ last₀ n j₀ node start finish sets before last j =
-    StoredTo (longerJob job d) plan j (table node start finish sets) before last × (j ≤ tasks job)
+Inv-loop job d plan into next from delay old new m node₀ start₀ finish₀ leave₀ sets₀ before₀ last₀ n list rack j₀
+    node start finish leave sets before last j =
+    StoredTo (longerJob job d) plan j (table node start finish sets) leave before last × (j ≤ tasks job)
 
 abbrev μ-loop : tie.MeasureT-loop
-μ-loop d job plan into next from delay old new m node₀ start₀ finish₀ sets₀ before₀ last₀ n j₀ node start finish sets before last j =
+μ-loop job d plan into next from delay old new m node₀ start₀ finish₀ leave₀ sets₀ before₀ last₀ n list rack j₀
+    node start finish leave sets before last j =
     tasks job - j
 
 merged-links-requires : tie.Need-merged-links-requires Inv-loop μ-loop
 merged-links-requires c κs =
-    let at-pre = c .before .before .before in
+    let at-pre = c .before .before .before .before in
     at-pre .pre .room .links-fit
 
 add-m : tie.Need-add-m Inv-loop μ-loop
 add-m c =
-    let at-pre = c .before .before .before .before in
+    let at-pre = c .before .before .before .before .before in
     omega (arith, at-pre .pre .room .links-fit)
 
 by-receiver-requires : tie.Need-by-receiver-requires Inv-loop μ-loop
 by-receiver-requires c κs =
     let at-merged-links = c .before .before .before .before in
-    let at-pre = at-merged-links .before .before .before .before in
+    let at-pre = at-merged-links .before .before .before .before .before in
     (merged-sendable _ _ _ (at-pre .pre) _ (at-merged-links .merged-links .ensures), sent-start _ _ _ _ _ refl refl refl refl (replicated 0 maxTasks))
 
 loop-holds : tie.Need-loop-holds Inv-loop μ-loop
-loop-holds c = (book-start _ _ _ _ refl refl, omega arith)
+loop-holds c = (book-start _ _ _ _ _ refl refl refl, omega arith)
 
 cast-at : tie.Need-cast-at Inv-loop μ-loop
 cast-at c =
-    let at-merged-links = c .before .before .before .before .before .before .before in
-    let at-pre = at-merged-links .before .before .before .before in
-    omega
-    (arith, old-few _ _ _ (at-pre .pre) _ (at-merged-links .merged-links .ensures) _ _ _ _ (c .before .before .by-receiver .ensures) _ (c .loop-test .taken))
+    let at-by-receiver = c .before .before .before .before .before in
+    let at-merged-links = at-by-receiver .before .before .before .before .before in
+    let at-pre = at-merged-links .before .before .before .before .before in
+    omega (
+      arith,
+      old-few _ _ _ (at-pre .pre) _ (at-merged-links .merged-links .ensures) _ _ _ _ (at-by-receiver .by-receiver .ensures) _
+          (c .loop-test .taken),
+    )
 
 pair-at-requires : tie.Need-pair-at-requires Inv-loop μ-loop
 pair-at-requires c κs =
     let at-loop-test = c .before .before .before .before .before .before .before .before .before in
-    let at-merged-links = at-loop-test .before .before .before .before .before .before .before in
-    let at-pre = at-merged-links .before .before .before .before in
-    old-takeable _ _ _ (at-pre .pre) _ (at-merged-links .merged-links .ensures) _ _ _ _ (at-loop-test .before .before .by-receiver .ensures) _
-    (at-loop-test .loop-test .taken) _ _ _ (at-loop-test .before .loop .inv .0)
+    let at-by-receiver = at-loop-test .before .before .before .before .before in
+    let at-merged-links = at-by-receiver .before .before .before .before .before in
+    let at-pre = at-merged-links .before .before .before .before .before in
+    old-takeable _ _ _ (at-pre .pre) _ (at-merged-links .merged-links .ensures) _ _ _ _ (at-by-receiver .by-receiver .ensures) _
+    (at-loop-test .loop-test .taken) _ _ _ _ (at-loop-test .before .loop .inv .0)
 
 book-requires : tie.Need-book-requires Inv-loop μ-loop
 book-requires c κs =
     let at-pair-at = c .before .before .before .before in
     let at-loop-test = at-pair-at .before .before .before .before .before .before .before .before .before .before in
-    let at-merged-links = at-loop-test .before .before .before .before .before .before .before in
-    let at-pre = at-merged-links .before .before .before .before in
-    old-bookable _ _ _ (at-pre .pre) _ (at-merged-links .merged-links .ensures) _ _ _ _ (at-loop-test .before .before .by-receiver .ensures) _
-    (at-loop-test .loop-test .taken) _ _ _ (at-loop-test .before .loop .inv .0) _ (at-pair-at .pair-at .ensures)
+    let at-by-receiver = at-loop-test .before .before .before .before .before in
+    let at-merged-links = at-by-receiver .before .before .before .before .before in
+    let at-pre = at-merged-links .before .before .before .before .before in
+    old-bookable _ _ _ (at-pre .pre) _ (at-merged-links .merged-links .ensures) _ _ _ _ (at-by-receiver .by-receiver .ensures) _
+    (at-loop-test .loop-test .taken) _ _ _ _ (at-loop-test .before .loop .inv .0) _ (at-pair-at .pair-at .ensures)
+
+send-off-requires : tie.Need-send-off-requires Inv-loop μ-loop
+send-off-requires c κs =
+    let at-pair-at = c .before .before .before .before .before .before in
+    let at-loop-test = at-pair-at .before .before .before .before .before .before .before .before .before .before in
+    let at-by-receiver = at-loop-test .before .before .before .before .before in
+    let at-merged-links = at-by-receiver .before .before .before .before .before in
+    let at-pre = at-merged-links .before .before .before .before .before in
+    old-departing _ _ _ (at-pre .pre) _ (at-merged-links .merged-links .ensures) _ _ _ _ (at-by-receiver .by-receiver .ensures) _
+    (at-loop-test .loop-test .taken) _ _ _ _ (at-loop-test .before .loop .inv .0) _ (at-pair-at .pair-at .ensures)
 
 chain-up-requires : tie.Need-chain-up-requires Inv-loop μ-loop
 chain-up-requires c κs =
-    let at-pair-at = c .before .before .before .before .before .before .before in
+    let at-pair-at = c .before .before .before .before .before .before .before .before .before in
     let at-loop-test = at-pair-at .before .before .before .before .before .before .before .before .before .before in
-    let at-merged-links = at-loop-test .before .before .before .before .before .before .before in
-    let at-pre = at-merged-links .before .before .before .before in
-    old-chainable _ _ _ (at-pre .pre) _ (at-merged-links .merged-links .ensures) _ _ _ _ (at-loop-test .before .before .by-receiver .ensures) _
-    (at-loop-test .loop-test .taken) _ _ _ (at-loop-test .before .loop .inv .0) _ (at-pair-at .pair-at .ensures)
+    let at-by-receiver = at-loop-test .before .before .before .before .before in
+    let at-merged-links = at-by-receiver .before .before .before .before .before in
+    let at-pre = at-merged-links .before .before .before .before .before in
+    old-departing _ _ _ (at-pre .pre) _ (at-merged-links .merged-links .ensures) _ _ _ _ (at-by-receiver .by-receiver .ensures) _
+    (at-loop-test .loop-test .taken) _ _ _ _ (at-loop-test .before .loop .inv .0) _ (at-pair-at .pair-at .ensures) .chainable
 
 add-j : tie.Need-add-j Inv-loop μ-loop
 add-j c =
-    let up1 = c .before .before .before .before .before .before .before .before .before .before .before .before .before .before in
-    let at-loop-test = up1 .before .before .before .before in
-    let at-pre = at-loop-test .before .before .before .before .before .before .before .before .before .before .before in
+    let at-pair-at = c .before .before .before .before .before .before .before .before .before .before in
+    let at-loop-test = at-pair-at .before .before .before .before .before .before .before .before .before .before in
+    let at-pre = at-loop-test .before .before .before .before .before .before .before .before .before .before .before .before .before .before .before in
     omega (arith, at-loop-test .loop-test .taken, at-pre .pre .sound .tasks-most)
 
 loop-less : tie.Need-loop-less Inv-loop μ-loop
 loop-less c =
-    let up1 = c .before .before .before .before .before .before .before .before .before .before .before .before .before .before in
-    let at-loop-test = up1 .before .before .before .before in
+    let at-pair-at = c .before .before .before .before .before .before .before .before .before .before in
+    let at-loop-test = at-pair-at .before .before .before .before .before .before .before .before .before .before in
     omega (arith, at-loop-test .loop-test .taken)
 
 loop-again : tie.Need-loop-again Inv-loop μ-loop
 loop-again c =
-    let at-book = c .before .before .before in
+    let at-send-off = c .before .before .before in
+    let at-book = at-send-off .before .before in
     let at-pair-at = at-book .before .before .before .before .before in
     let at-loop-test = at-pair-at .before .before .before .before .before .before .before .before .before .before in
-    let at-merged-links = at-loop-test .before .before .before .before .before .before .before in
-    let at-pre = at-merged-links .before .before .before .before in
-    let more = old-more _ _ _ (at-pre .pre) _ (at-merged-links .merged-links .ensures) _ _ _ _
-    (at-loop-test .before .before .by-receiver .ensures) _ (at-loop-test .loop-test .taken) _ _ _ (at-loop-test .before .loop .inv .0) _
-    (at-pair-at .pair-at .ensures) in
-    (more _ (at-book .book .ensures) _ _ (c .chain-up .ensures), omega (arith, at-loop-test .loop-test .taken))
+    let at-by-receiver = at-loop-test .before .before .before .before .before in
+    let at-merged-links = at-by-receiver .before .before .before .before .before in
+    let at-pre = at-merged-links .before .before .before .before .before in
+    let more = old-more _ _ _ (at-pre .pre) _ (at-merged-links .merged-links .ensures) _ _ _ _ (at-by-receiver .by-receiver .ensures) _
+    (at-loop-test .loop-test .taken) _ _ _ _ (at-loop-test .before .loop .inv .0) _ (at-pair-at .pair-at .ensures) in
+    (more _ (at-book .book .ensures) _ _ _ (at-send-off .send-off .ensures) (c .chain-up .ensures), omega (arith, at-loop-test .loop-test .taken))
 
 cast-of : tie.Need-cast-of Inv-loop μ-loop
 cast-of c =
-    let at-by-receiver = c .before .before .before in
+    let at-by-receiver = c .before .before .before .before .before .before in
     let at-merged-links = at-by-receiver .before .before .before .before .before in
-    let at-pre = at-merged-links .before .before .before .before in
+    let at-pre = at-merged-links .before .before .before .before .before in
     omega (arith, new-few _ _ _ (at-pre .pre) _ (at-merged-links .merged-links .ensures) _ _ _ _ (at-by-receiver .by-receiver .ensures))
 
 place-task-requires : tie.Need-place-task-requires Inv-loop μ-loop
 place-task-requires c κs =
-    let at-of = c .before .before .before .before .before .before .before .before .before in
+    let at-of = c .before .before .before .before .before .before .before .before .before .before in
     let at-loop = at-of .before .before .before in
-    let at-merged-links = at-loop .before .before .before .before .before .before in
-    let at-pre = at-merged-links .before .before .before .before in
-    new-wanted _ _ _ (at-pre .pre) _ (at-merged-links .merged-links .ensures) _ _ _ _ (at-loop .before .by-receiver .ensures) _ _ _ _
+    let at-by-receiver = at-loop .before .before .before .before in
+    let at-merged-links = at-by-receiver .before .before .before .before .before in
+    let at-pre = at-merged-links .before .before .before .before .before in
+    new-wanted _ _ _ (at-pre .pre) _ (at-merged-links .merged-links .ensures) _ _ _ _ (at-by-receiver .by-receiver .ensures) _ _ _ _ _
     (at-loop .loop .inv .0) (at-loop .loop .inv .1) (at-of .before .before .loop-test .left) _ (at-of .of .ensures)
 
 returns : tie.Need-returns Inv-loop μ-loop
 returns c =
-    let at-of = c .before .before .before .before .before .before .before .before .before .before in
+    let at-of = c .before .before .before .before .before .before .before .before .before .before .before in
     let at-loop = at-of .before .before .before in
-    let at-merged-links = at-loop .before .before .before .before .before .before in
-    let at-pre = at-merged-links .before .before .before .before in
-    new-told _ _ _ (at-pre .pre) _ (at-merged-links .merged-links .ensures) _ _ _ _ (at-loop .before .by-receiver .ensures) _ _ _ _
+    let at-by-receiver = at-loop .before .before .before .before in
+    let at-merged-links = at-by-receiver .before .before .before .before .before in
+    let at-pre = at-merged-links .before .before .before .before .before in
+    new-told _ _ _ (at-pre .pre) _ (at-merged-links .merged-links .ensures) _ _ _ _ (at-by-receiver .by-receiver .ensures) _ _ _ _ _
     (at-loop .loop .inv .0) (at-loop .loop .inv .1) (at-of .before .before .loop-test .left) _ (at-of .of .ensures) _ (c .place-task .ensures)
 
 pub place-new-spec : {M : Type 1} → statement M
 place-new-spec =
     tie.close
-    (tie.spec Inv-loop μ-loop (λ c. search needs) (λ c. search needs) merged-links-requires add-m by-receiver-requires (λ c. search needs) loop-holds (λ
-    c. search needs) (λ c. search needs) cast-at (λ c. search needs) (λ c. search needs) (λ c. search needs) (λ c. search needs) pair-at-requires
-    book-requires chain-up-requires add-j loop-less loop-again (λ c. search needs) (λ c. search needs) (λ c. search needs) cast-of (λ c κs. search
-    needs) place-task-requires returns)
+    (tie.spec Inv-loop μ-loop (λ c. search needs) (λ c. search needs) merged-links-requires add-m by-receiver-requires
+    (λ c. search needs) loop-holds (λ c. search needs) (λ c. search needs) cast-at (λ c. search needs) (λ c. search needs)
+    (λ c. search needs) (λ c. search needs) pair-at-requires book-requires send-off-requires chain-up-requires add-j loop-less loop-again
+    (λ c. search needs) (λ c. search needs) (λ c. search needs) cast-of (λ c κs. search needs) place-task-requires returns)

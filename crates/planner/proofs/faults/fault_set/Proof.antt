@@ -1,6 +1,6 @@
 -- `planner::faults::fault_set` meets its contract.
 use native.Mathlib.Omega.{arith}
-use Rattle.copies.specs.Table.{table}
+use Rattle.planner.specs.Senders.{results}
 use Rattle.planner.proofs.SenderLaws.{walk-arriving, walk-next}
 use Rattle.planner.proofs.FaultLaws.{Faulting, faulting-start, faulting-more, faulting-done}
 use borrow.Author.Needs.{needs}
@@ -8,11 +8,11 @@ use Rattle.planner.proofs.faults.fault_set.Statement.{statement}
 use Rattle.planner.proofs.faults.fault_set.Tie as tie
 
 abbrev Inv-loop : tie.InvT-loop
-Inv-loop next from delay node start finish sets last primary set₀ left₀ set left =
-    Faulting next from delay (table node start finish sets) last primary left set
+Inv-loop next from delay node finish leave sets last primary set₀ left₀ set left =
+    Faulting next from delay (results node finish leave sets) last primary left set
 
 abbrev μ-loop : tie.MeasureT-loop
-μ-loop next from delay node start finish sets last primary set₀ left₀ set left = left
+μ-loop next from delay node finish leave sets last primary set₀ left₀ set left = left
 
 loop-holds : tie.Need-loop-holds Inv-loop μ-loop
 loop-holds c = faulting-start _ _ _ _ _ _ (c .before .pre .0) _ (c .bit-of-node .ensures)

@@ -6,25 +6,25 @@ use Rattle.planner.proofs.task.place_task.Statement.{statement}
 use Rattle.planner.proofs.task.place_task.Tie as tie
 
 gather-requires : tie.Need-gather-requires
-gather-requires c κs = want-sending _ _ _ _ _ _ _ (c .pre)
+gather-requires c κs = want-sending _ _ _ _ _ _ _ _ (c .pre)
 
 best-slot-requires : tie.Need-best-slot-requires
 best-slot-requires c κs =
     let at-pre = c .before .before .before in
-    primary-ready _ _ _ _ _ _ _ (at-pre .pre) _ (c .before .before .gather .ensures) _ (c .primary-search .ensures)
+    primary-ready _ _ _ _ _ _ _ _ (at-pre .pre) _ (c .before .before .gather .ensures) _ (c .primary-search .ensures)
 
 returns : tie.Need-returns
 returns c =
     let at-primary-search = c .before .before .before in
-    λ w. no-primary _ _ _ _ _ _ _ w _ (at-primary-search .before .before .gather .ensures) _ (at-primary-search .primary-search .ensures)
+    λ w. no-primary _ _ _ _ _ _ _ _ w _ (at-primary-search .before .before .gather .ensures) _ (at-primary-search .primary-search .ensures)
     (c .before .before .best-slot .result) (c .before .before .best-slot .ensures) (c .enum-told .given .1)
 
 fault-set-requires : tie.Need-fault-set-requires
 fault-set-requires c κs =
     let at-best-slot = c .before .before .before in
     let at-gather = at-best-slot .before .before .before in (
-      want-sending _ _ _ _ _ _ _ (at-gather .before .pre),
-      primary-node _ _ _ _ _ _ _ (at-gather .before .pre) _ (at-gather .gather .ensures) _ (at-best-slot .before .primary-search .ensures)
+      want-sending _ _ _ _ _ _ _ _ (at-gather .before .pre),
+      primary-node _ _ _ _ _ _ _ _ (at-gather .before .pre) _ (at-gather .gather .ensures) _ (at-best-slot .before .primary-search .ensures)
           (at-best-slot .best-slot .result) (at-best-slot .best-slot .ensures) _ (c .before .a .given .1),
     )
 
@@ -33,13 +33,13 @@ element-copy-out-own c =
     let at-a = c .before .before .before in
     let at-primary-search = at-a .before .before .before in
     let at-pre = at-primary-search .before .before .before in
-    primary-node _ _ _ _ _ _ _ (at-pre .pre) _ (at-primary-search .before .before .gather .ensures) _ (at-primary-search .primary-search .ensures)
+    primary-node _ _ _ _ _ _ _ _ (at-pre .pre) _ (at-primary-search .before .before .gather .ensures) _ (at-primary-search .primary-search .ensures)
     (at-a .before .before .best-slot .result) (at-a .before .before .best-slot .ensures) _ (at-a .a .given .1)
 
 gather-requires-2 : tie.Need-gather-requires-2
 gather-requires-2 c κs =
     let at-pre = c .before .before .before .before .before .before .before .before .before .before in
-    want-sending _ _ _ _ _ _ _ (at-pre .pre)
+    want-sending _ _ _ _ _ _ _ _ (at-pre .pre)
 
 add-backup-search : tie.Need-add-backup-search
 add-backup-search c =
@@ -48,7 +48,7 @@ add-backup-search c =
     let at-pre = at-primary-search .before .before .before in
     omega (
       arith,
-      least-fits _ _ _ _ _ _ _ (at-pre .pre) _ (at-primary-search .before .before .gather .ensures) _ (at-primary-search .primary-search .ensures)
+      least-fits _ _ _ _ _ _ _ _ (at-pre .pre) _ (at-primary-search .before .before .gather .ensures) _ (at-primary-search .primary-search .ensures)
           (at-a .before .before .best-slot .result) (at-a .before .before .best-slot .ensures) _ (at-a .a .given .1),
     )
 
@@ -58,7 +58,7 @@ best-slot-requires-2 c κs =
     let at-fault-set = at-gather2 .before .before .before in
     let at-best-slot = at-fault-set .before .before .before .before in
     let at-gather = at-best-slot .before .before .before in
-    backup-ready _ _ _ _ _ _ _ (at-gather .before .pre) _ (at-gather .gather .ensures) _ (at-best-slot .before .primary-search .ensures)
+    backup-ready _ _ _ _ _ _ _ _ (at-gather .before .pre) _ (at-gather .gather .ensures) _ (at-best-slot .before .primary-search .ensures)
     (at-best-slot .best-slot .result) (at-best-slot .best-slot .ensures) _ (at-fault-set .before .before .a .given .1) _
     (at-fault-set .fault-set .ensures) _ (at-gather2 .gather2 .ensures) _ (c .backup-search .ensures)
 
@@ -69,7 +69,7 @@ returns-2 c =
     let at-fault-set = at-gather2 .before .before .before in
     let at-best-slot = at-fault-set .before .before .before .before in
     let at-gather = at-best-slot .before .before .before in
-    λ w. no-backup _ _ _ _ _ _ _ w _ (at-gather .gather .ensures) _ (at-best-slot .before .primary-search .ensures)
+    λ w. no-backup _ _ _ _ _ _ _ _ w _ (at-gather .gather .ensures) _ (at-best-slot .before .primary-search .ensures)
     (at-best-slot .best-slot .result) (at-best-slot .best-slot .ensures) _ (at-fault-set .before .before .a .given .1) _
     (at-fault-set .fault-set .ensures) _ (at-gather2 .gather2 .ensures) _ (at-backup-search .backup-search .ensures)
     (c .before .before .best-slot2 .result) (c .before .before .best-slot2 .ensures) (c .enum-told2 .given .1)
@@ -81,7 +81,7 @@ returns-3 c =
     let at-fault-set = at-gather2 .before .before .before in
     let at-best-slot = at-fault-set .before .before .before .before in
     let at-gather = at-best-slot .before .before .before in
-    λ w. both _ _ _ _ _ _ _ w _ (at-gather .gather .ensures) _ (at-best-slot .before .primary-search .ensures) (at-best-slot .best-slot .result)
+    λ w. both _ _ _ _ _ _ _ _ w _ (at-gather .gather .ensures) _ (at-best-slot .before .primary-search .ensures) (at-best-slot .best-slot .result)
     (at-best-slot .best-slot .ensures) _ (at-fault-set .before .before .a .given .1) _ (at-fault-set .fault-set .ensures) _
     (at-gather2 .gather2 .ensures) _ (at-best-slot2 .before .backup-search .ensures) (at-best-slot2 .best-slot2 .result)
     (at-best-slot2 .best-slot2 .ensures) _ (c .before .b .given .1)

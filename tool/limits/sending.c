@@ -1,0 +1,129 @@
+/* Send times: the delay that judge, planner, replay, ask and commit take. */
+#include "limits.h"
+
+#include <string.h>
+
+enum { MOST = SEQOPCHI_MAX_SEND };
+
+/* Of the usual three nodes, from byte 12 on. Their detect time is 1, links have delay 2,
+ * and each task runs for 4 ticks. */
+static void set_sends(const uint32_t send[3])
+{
+    for (int node = 0; node < 3; node++) {
+        job.at[SEND] = 12 + SEQOPCHI_NODE_BYTES(version) * (size_t)node;
+        set_number(&job, SEND, send[node]);
+    }
+}
+
+/* Plans of two linked tasks that pass, with a result that arrives just in time. If the
+ * sender takes a tick more, a rule is broken, and in the run with that loss the copies
+ * of task 1 have other outcomes. A send time that has no part in it, on one node or
+ * where the result arrives, is the greatest. */
+static const struct edge {
+    uint32_t send[3], sender, rows[8];
+    unsigned number, first, second;
+    uint32_t node, moment;
+    uint8_t in_time[2], too_late[2];
+} edges[] = {
+    /* from primary to primary */
+    { { 3, MOST, MOST }, 0, { 0, 0, 1, 5, 2, 9, 1, 14 },
+      SEQOPCHI_REFUSED_PRIMARY_UNFED, 0, 1, 1, 0,
+      { SEQOPCHI_FINISHED, SEQOPCHI_NOT_STARTED },
+      { SEQOPCHI_NOT_STARTED, SEQOPCHI_NOT_STARTED } },
+    /* from primary to backup; both primaries are on one node */
+    { { 3, MOST, MOST }, 0, { 0, 0, 1, 5, 0, 4, 1, 9 },
+      SEQOPCHI_REFUSED_BACKUP_UNFED, 0, 1, 0, 5,
+      { SEQOPCHI_CUT, SEQOPCHI_FINISHED }, { SEQOPCHI_CUT, SEQOPCHI_NOT_STARTED } },
+    /* from backup to backup */
+    { { 0, 3, MOST }, 1, { 0, 0, 1, 5, 0, 4, 2, 14 },
+      SEQOPCHI_REFUSED_BACKUP_UNFED, 0, 1, 0, 3,
+      { SEQOPCHI_NOT_STARTED, SEQOPCHI_FINISHED },
+      { SEQOPCHI_NOT_STARTED, SEQOPCHI_NOT_STARTED } },
+    /* from backup to primary: the link is strong, then weak, and the loss is common */
+    { { 0, 3, MOST }, 1, { 0, 0, 1, 5, 2, 14, 0, 19 },
+      SEQOPCHI_REFUSED_COMMON_LOSS, 1, 1, 0, 3,
+      { SEQOPCHI_FINISHED, SEQOPCHI_NOT_STARTED },
+      { SEQOPCHI_NOT_STARTED, SEQOPCHI_NOT_STARTED } }
+};
+
+static void expect_outcomes(const struct edge *e, const uint8_t outcomes[2])
+{
+    const uint8_t *row = out + SEQOPCHI_REPLAY_BYTES(1);
+
+    lost_node = e->node;
+    lost_moment = e->moment;
+    expect(LOSS, ROOM, SEQOPCHI_DONE, 0, 0);
+    check(row[0] == outcomes[0], "another outcome of the primary");
+    check(row[4] == outcomes[1], "another outcome of the backup");
+}
+
+static void check_edge(const struct edge *e)
+{
+    uint32_t send[3];
+
+    about("the delay", "send time", e->send[e->sender]);
+    memcpy(send, e->send, sizeof send);
+    write_two_tasks(e->rows);
+    set_sends(send);
+    expect(JUDGE, 0, SEQOPCHI_DONE, 0, 0);
+    expect_outcomes(e, e->in_time);
+    send[e->sender]++;
+    set_sends(send);
+    expect(JUDGE, 0, e->number, e->first, e->second);
+    expect_outcomes(e, e->too_late);
+}
+
+/* The run time of the last task on node 0, of three. */
+static void clear_run(struct file *f, enum field field)
+{
+    f->at[field] -= 8;
+    set_number(f, field, 0);
+}
+
+/* The second of two linked tasks, which node 0 cannot run, so that the first one's
+ * result has to be sent. The backup of the first is on node 1 from 5 to 9. */
+static void check_planned(const uint32_t send[3], const uint32_t wanted[4])
+{
+    const uint8_t *row = out + SEQOPCHI_PLAN_BYTES(1);
+
+    write_files(TASKS, 2);
+    set_sends(send);
+    clear_run(&job, RUN);
+    expect(PLAN, ROOM, SEQOPCHI_DONE, 0, 0);
+    for (int i = 0; i < 4; i++)
+        check(row[4 * i] == wanted[i], "another place");
+}
+
+/* The same task asked for and booked; a tick sooner it is stale. */
+static void check_asked(const uint32_t send[3], const uint32_t wanted[4])
+{
+    write_planned(TASKS, 1);
+    set_sends(send);
+    numbers[NEW_LINKS] = 1;
+    write_task();
+    clear_run(&task, NEW_RUN);
+    clear_run(&booking, NEW_RUN);
+    expect(ASK, 0, SEQOPCHI_DONE, 0, 0);
+    check(memcmp(places, wanted, sizeof places) == 0, "another place asked for");
+    for (int i = 0; i < 4; i++)
+        set_number(&booking, NEW_PRIMARY + i, wanted[i]);
+    expect(COMMIT, ROOM, SEQOPCHI_DONE, 0, 0);
+    check(memcmp(out, job.data, SEQOPCHI_JOB_BYTES(version, 3, 0, 0) - 8) == 0,
+          "the longer job has other nodes");
+    set_number(&booking, NEW_PRIMARY_START, wanted[1] - 1);
+    expect(COMMIT, ROOM, SEQOPCHI_REFUSED_STALE, 1, 1);
+}
+
+void check_sending(void)
+{
+    for (size_t i = 0; i < COUNT_OF(edges); i++)
+        check_edge(&edges[i]);
+    for (uint32_t ticks = 0; ticks < 3; ticks++) {
+        const uint32_t send[3] = { ticks, MOST, MOST };
+        const uint32_t wanted[4] = { 2, 6 + ticks, 1, 11 + ticks };
+
+        about("the places", "send time", ticks);
+        check_planned(send, wanted);
+        check_asked(send, wanted);
+    }
+}
