@@ -7,8 +7,9 @@ use lib.Dec.{leb, eqb}
 use lib.ListN.{getD, length}
 use Rattle.reader.specs.declared.job.Job.{Job}
 use Rattle.reader.specs.declared.job.Link.{Link}
+use Rattle.reader.specs.declared.job.Node.{Node}
 use Rattle.reader.specs.Limits.{maxSend, maxTime, maxStart}
-use Rattle.reader.specs.Entries.{send}
+use Rattle.reader.specs.Entries.{noNode}
 use Rattle.reader.specs.Tests.{_and_, _implies_}
 use Rattle.rules.specs.declared.Copy.{Copy}
 use Rattle.copies.specs.declared.arrival.Result.{Result}
@@ -28,9 +29,12 @@ comes r d = leb (arrivalOf r (d .node)) (d .start)
 abbrev pub fedOf : Result → Result → ℕ → Copy → ℕ → Bool
 fedOf p b z d m = comes p d and (meets z m implies comes b d)
 
--- when the result of copy c has left its node, and the result as it goes out by link l
+-- when the result of copy c has left its node, one of these; of a job's; and the result as it goes out by link l
+abbrev pub leaveBy : List Node → Copy → ℕ
+leaveBy nodes c = c .finish + getD nodes (c .node) noNode .send
+
 abbrev pub leaveOf : Job → Copy → ℕ
-leaveOf job c = c .finish + send job (c .node)
+leaveOf job = leaveBy (job .nodes)
 
 abbrev pub resultOf : Job → Link → Copy → Result
 resultOf job l c = record { node = c .node; here = c .finish; away = leaveOf job c + l .delay }

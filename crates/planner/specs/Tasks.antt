@@ -14,14 +14,14 @@ use Rattle.reader.specs.declared.refusal.Answer.the-variants.{Done, Refused}
 use Rattle.reader.specs.Tests.{_and_}
 use Rattle.reader.specs.First.{fill}
 use Rattle.reader.specs.Limits.{maxNodes, maxTasks, maxStart, maxTime}
-use Rattle.reader.specs.Entries.{nodes, tasks, links, task, link, noNode, noPlace, emptyPlan}
+use Rattle.reader.specs.Entries.{nodes, tasks, links, task, link, noPlace, emptyPlan}
 use Rattle.reader.specs.Sound.{Sound}
 use Rattle.rules.specs.declared.Copy.{Copy}
 use Rattle.rules.specs.Rules.{Row}
 use Rattle.rules.specs.Attempts.{Attempt, refused, placed}
 use Rattle.rules.specs.Planner.{placeTasks, anywhere}
 use Rattle.copies.specs.declared.table.Copies.{Copies}
-use Rattle.copies.specs.Arrival.{Leaving}
+use Rattle.copies.specs.Arrival.{leaveBy, Leaving}
 use Rattle.copies.specs.Sets.{has, everyNode}
 use Rattle.copies.specs.Table.{copyCount, nodeAt, entry, setAt, rowOf, Whole, Held}
 use Rattle.copies.specs.Chain.{Chained}
@@ -91,10 +91,7 @@ ChainedUp j x last before last' before' =
     (key : ℕ → ℕ) → key (2 * j) ≡ x .primary .node → key (2 * j + 1) ≡ x .backup .node
     → Chained key maxNodes copyCount (2 * j) last before → Chained key maxNodes copyCount (2 * (j + 1)) last' before'
 
--- when the result of a copy leaves, on a rack of these nodes; that of both copies can be noted, and is
-abbrev pub leaveBy : List Node → Copy → ℕ
-leaveBy nodes c = c .finish + getD nodes (c .node) noNode .send
-
+-- when the results of both leave, on these nodes, can be noted, and is
 pub record Departing (nodes : List Node) (j : ℕ) (x : Pair) : Type 0 where
   pub chainable : Chainable j x
   pub primary-fits : leaveBy nodes (x .primary) < 4_294_967_296
