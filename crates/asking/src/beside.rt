@@ -50,8 +50,7 @@ fn pair_at<'l, 'c>(
 }
 
 // The planner's own step for a new task beside the plan, with its primary anywhere. Of the longer job it makes the links alone.
-// The nodes, starts and finishes of the copies are `on`, `go` and `end`, and their results leave at `off`: short names for long calls. In the loop the
-// job is read by its parts, or it would be copied once more.
+// Names of the columns are those of `plan_job`. In the loop the job is read by its parts, or it would be copied once more.
 pub fn place_new(job: Job, plan: Plan, d: Description) -> Placing
     requires { ⌜ Asking job plan d ⌝ }
     ensures { λ r. ⌜ attempted r ≡ placeNew job plan d ⌝ }
@@ -72,8 +71,8 @@ pub fn place_new(job: Job, plan: Plan, d: Description) -> Placing
     let mut end = [0u32; Copies::COUNT];
     let mut off = [0u32; Copies::COUNT];
     let mut set = [0u32; Copies::COUNT];
-    let mut prev = [0usize; Copies::COUNT];
-    let mut last = [0usize; Job::MAX_NODES];
+    let mut up = [0usize; Copies::COUNT];
+    let mut top = [0usize; Job::MAX_NODES];
     let n = job.task_count as usize;
     let tasks = job.tasks;
     let nodes = job.nodes;
@@ -85,22 +84,10 @@ pub fn place_new(job: Job, plan: Plan, d: Description) -> Placing
         let pair = pair_at(&next, &from, &lag, &on, &end, &off, &set, at, task, place);
         book(&mut on, &mut go, &mut end, &mut set, j, pair);
         send_off(&mut off, nodes, j, pair);
-        chain_up(&mut prev, &mut last, j, pair);
+        chain_up(&mut up, &mut top, j, pair);
         j += 1;
     }
     let count = job.node_count as usize;
-    let want = Want::of(n, d.task, nodes, count, into[n] as usize);
-    place_task(
-        &next,
-        &from,
-        &lag,
-        &on,
-        &go,
-        &end,
-        &off,
-        &set,
-        &prev,
-        &last,
-        want,
-    )
+    let w = Want::of(n, d.task, nodes, count, into[n] as usize);
+    place_task(&next, &from, &lag, &on, &go, &end, &off, &set, &up, &top, w)
 }

@@ -50,7 +50,8 @@ fn all_planned(plan: Plan) -> Planned
     }
 }
 
-// The whole plan: tasks go by number.
+// The whole plan: tasks go by number. The nodes, starts and finishes of the copies are `on`, `go` and `end`, their results leave at `off`, and
+// chains of copies lead `up` from `top`: each call stands on one line so.
 pub fn plan_job(job: Job) -> Planned
     requires { ⌜ Sound job ⌝ }
     ensures { λ r. ⌜ r ≡ planned (planner job) ⌝ }
@@ -60,41 +61,29 @@ pub fn plan_job(job: Job) -> Planned
     let mut into = [0u32; Job::MAX_TASKS];
     let mut next = [0u32; Job::MAX_LINKS];
     let mut from = [0u32; Job::MAX_LINKS];
-    let mut delay = [0u32; Job::MAX_LINKS];
+    let mut lag = [0u32; Job::MAX_LINKS];
     let m = job.link_count as usize;
-    by_receiver(job.links, m, &mut into, &mut next, &mut from, &mut delay);
-    let mut node = [0u32; Copies::COUNT];
-    let mut start = [0u32; Copies::COUNT];
-    let mut finish = [0u32; Copies::COUNT];
-    let mut leave = [0u32; Copies::COUNT];
-    let mut sets = [0u32; Copies::COUNT];
-    let mut before = [0usize; Copies::COUNT];
-    let mut last = [0usize; Job::MAX_NODES];
+    by_receiver(job.links, m, &mut into, &mut next, &mut from, &mut lag);
+    let mut on = [0u32; Copies::COUNT];
+    let mut go = [0u32; Copies::COUNT];
+    let mut end = [0u32; Copies::COUNT];
+    let mut off = [0u32; Copies::COUNT];
+    let mut set = [0u32; Copies::COUNT];
+    let mut up = [0usize; Copies::COUNT];
+    let mut top = [0usize; Job::MAX_NODES];
     let mut j: usize = 0;
     while j < n {
-        let want = Want::of(j, job.tasks[j], job.nodes, count, into[j] as usize);
-        let x = place_task(
-            &next,
-            &from,
-            &delay,
-            &node,
-            &start,
-            &finish,
-            &leave,
-            &sets,
-            &before,
-            &last,
-            want,
-        );
+        let w = Want::of(j, job.tasks[j], job.nodes, count, into[j] as usize);
+        let x = place_task(&next, &from, &lag, &on, &go, &end, &off, &set, &up, &top, w);
         match x {
             Placing::Nowhere(r) => return unplanned(r),
             Placing::At(pair) => {
-                book(&mut node, &mut start, &mut finish, &mut sets, j, pair);
-                send_off(&mut leave, job.nodes, j, pair);
-                chain_up(&mut before, &mut last, j, pair);
+                book(&mut on, &mut go, &mut end, &mut set, j, pair);
+                send_off(&mut off, job.nodes, j, pair);
+                chain_up(&mut up, &mut top, j, pair);
             }
         }
         j += 1;
     }
-    all_planned(plan_of(&node, &start, n))
+    all_planned(plan_of(&on, &go, n))
 }

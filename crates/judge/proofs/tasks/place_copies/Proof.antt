@@ -89,7 +89,9 @@ add-j : tie.Need-add-j Inv-loop μ-loop
 add-j c = omega (arith, room (c .before .before .before .before .before .before .before .before .before .before .before .before .before .before))
 
 loop-less : tie.Need-loop-less Inv-loop μ-loop
-loop-less c = omega (arith, turn (c .before .before .before .before .before .before .before .before .before .before .before .before .before .before) .loop-test .taken)
+loop-less c =
+    let at-noted4 = c .before .before .before .before .before .before .before .before .before .before .before .before .before .before in
+    omega (arith, turn at-noted4 .loop-test .taken)
 
 loop-again : tie.Need-loop-again Inv-loop μ-loop
 loop-again c =
