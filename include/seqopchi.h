@@ -1,5 +1,5 @@
-/* seqopchi.h: judge, planner and replay of rack plans, and the booking of one more
- * task, on byte buffers.
+/* seqopchi.h: judge, planner and replay of rack plans, the fault sets of their tasks,
+ * and the booking of one more task, on byte buffers.
  *
  * A job file lists nodes, tasks and links. A plan file gives each task a
  * primary and a backup copy. Each number in a file is 4 bytes, unsigned, low
@@ -89,6 +89,7 @@ extern "C" {
      + SEQOPCHI_TASK_BYTES(version, nodes) * (tasks) + 12 * (links))
 #define SEQOPCHI_PLAN_BYTES(tasks) (8 + 16 * (tasks))
 #define SEQOPCHI_REPLAY_BYTES(tasks) (12 * (tasks))
+#define SEQOPCHI_FAULT_SETS_BYTES(tasks) (4 * (tasks))
 #define SEQOPCHI_DESCRIPTION_BYTES(version, nodes, links) \
     (SEQOPCHI_TASK_BYTES(version, nodes) + 4 + 8 * (links))
 #define SEQOPCHI_BOOKING_BYTES(version, nodes, links) \
@@ -96,6 +97,7 @@ extern "C" {
 #define SEQOPCHI_MAX_JOB_BYTES 10896 /* of the newest version */
 #define SEQOPCHI_MAX_PLAN_BYTES SEQOPCHI_PLAN_BYTES(SEQOPCHI_MAX_TASKS)
 #define SEQOPCHI_MAX_REPLAY_BYTES SEQOPCHI_REPLAY_BYTES(SEQOPCHI_MAX_TASKS)
+#define SEQOPCHI_MAX_FAULT_SETS_BYTES SEQOPCHI_FAULT_SETS_BYTES(SEQOPCHI_MAX_TASKS)
 /* The longest that read well, of the newest version: with a link from each task. */
 #define SEQOPCHI_MAX_DESCRIPTION_BYTES \
     SEQOPCHI_DESCRIPTION_BYTES(SEQOPCHI_NEWEST_JOB_VERSION, SEQOPCHI_MAX_NODES, \
@@ -207,6 +209,19 @@ uint64_t seqopchi_replay_loss(const uint8_t *job, size_t job_len,
                               const uint8_t *plan, size_t plan_len,
                               uint32_t node, uint32_t moment,
                               uint8_t *out, size_t out_len);
+
+/* The fault sets of the tasks of plan, as seqopchi_judge has them, also where it would
+ * refuse the plan. They are worked out task by task, all links that arrive at one task
+ * before the next. In this order:
+ *   1 to 6        the faults of the job
+ *   1 to 4, 6, 7  the faults of the plan
+ *   17            out_len is below 4 N; 4 N / 0
+ *   0             the first 4 N bytes of out are a number for each task, its fault
+ *                 set: bit q (worth 2 to the power q) is 1 if node q is in it, else 0
+ */
+uint64_t seqopchi_fault_sets(const uint8_t *job, size_t job_len,
+                             const uint8_t *plan, size_t plan_len,
+                             uint8_t *out, size_t out_len);
 
 /* Where one more task would go, as task N beside the copies of plan: the places that
  * the planner would give it. Nothing is booked. In this order:

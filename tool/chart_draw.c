@@ -74,19 +74,13 @@ static unsigned counted(const struct chart *c, uint32_t what, int backup)
 
 static void add_subtitle(struct chart *c)
 {
-    const struct file *job = &c->in->job, *plan = &c->in->plan;
-    uint64_t result = seqopchi_judge(job->data, job->length, plan->data, plan->length);
-
     if (c->o->lose)
         buffer_print(&c->svg, "Primaries finished: %u. Backups finished: %u. "
                      "Copies cut: %u. ", counted(c, SEQOPCHI_FINISHED, 0),
                      counted(c, SEQOPCHI_FINISHED, 1),
                      counted(c, SEQOPCHI_CUT, 0) + counted(c, SEQOPCHI_CUT, 1));
     buffer_print(&c->svg, "The judge's answer to the plan: ");
-    if (result)
-        refusal_text(&c->svg, result, job, plan);
-    else
-        buffer_print(&c->svg, "passed");
+    verdict_text(&c->svg, &c->in->job, &c->in->plan);
 }
 
 static void add_title(struct chart *c)

@@ -20,6 +20,7 @@ int run_judge(const struct options *o);
 int run_replay(const struct options *o);
 int run_list(const struct options *o);
 int run_show(const struct options *o);
+int run_trace(const struct options *o);
 int run_pack(const struct options *o);
 int run_unpack(const struct options *o);
 int run_chart(const struct options *o);
@@ -52,6 +53,9 @@ void free_request(struct request *r);
 /* The run of a readable plan, from replay: three numbers for each task. */
 int replayed(struct file *run, const struct input *in, const struct options *o);
 const char *outcome_word(uint32_t outcome);
+
+/* The line that tells the judge's answer to a readable plan. */
+void add_verdict(struct buffer *b, const struct input *in);
 
 /* Writes the text, frees it, and gives the exit status. */
 int finish_output(const struct options *o, struct buffer *text);

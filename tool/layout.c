@@ -62,6 +62,11 @@ uint32_t job_node(const struct file *job, uint32_t node, int field)
     return number_at(job, node_at(job, node) + 4 * (size_t)field);
 }
 
+uint32_t job_send(const struct file *job, uint32_t node)
+{
+    return SEND < node_fields_in(job_version(job)) ? job_node(job, node, SEND) : 0;
+}
+
 size_t task_count_at(const struct file *job)
 {
     return node_at(job, job_nodes(job));

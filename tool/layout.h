@@ -40,6 +40,7 @@ uint32_t job_version(const struct file *job);
 uint32_t job_nodes(const struct file *job);
 /* Of a field that the version has. */
 uint32_t job_node(const struct file *job, uint32_t node, int field);
+uint32_t job_send(const struct file *job, uint32_t node); /* 0 where there is none */
 uint32_t job_tasks(const struct file *job);
 uint32_t job_ready(const struct file *job, uint32_t task); /* 0 where there is none */
 uint32_t job_deadline(const struct file *job, uint32_t task);

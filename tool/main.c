@@ -1,4 +1,4 @@
-/* seqopchi: the command line over judge, planner, replay and booking. */
+/* seqopchi: the command line over judge, planner, replay, fault sets and booking. */
 #include "commands.h"
 
 #include "seqopchi.h"
@@ -8,7 +8,7 @@
 #include <stdio.h>
 #include <string.h>
 
-#define TOOL_VERSION "1.3"
+#define TOOL_VERSION "1.4"
 
 enum { OUTPUT = 1, OUTPUT_DUE = 2, LOSS = 4, JOB = 8, TWO_OUTPUTS = 16 };
 
@@ -40,6 +40,13 @@ static const struct command commands[] = {
       "print a job, and a plan, as readable text",
       "Prints the job and, with a plan, the judge's answer, the places by task\n"
       "and the copies of each node in order of time.\n" },
+    { "trace", run_trace, 2, 2, OUTPUT, "trace JOB PLAN",
+      "tell how the fault sets come about, task by task",
+      "Prints the judge's answer; then, for each task in turn, the links that arrive\n"
+      "at it and its fault set. The set begins with the node of the task's primary. A\n"
+      "link is strong if the result of the sender's backup is there by the primary's\n"
+      "start, else weak; a weak link brings the sender's set. The plan need not pass\n"
+      "the judge.\n" },
     { "pack", run_pack, 1, 1, OUTPUT | OUTPUT_DUE | JOB,
       "pack TEXT -o FILE [--job JOB]",
       "make a job, plan or task file from text",

@@ -252,12 +252,15 @@ static void add_refusal(struct buffer *b, uint64_t result, const struct given *g
         buffer_print(b, "the output needs %u bytes", (unsigned)first);
 }
 
-void refusal_text(struct buffer *b, uint64_t result,
-                  const struct file *job, const struct file *plan)
+void verdict_text(struct buffer *b, const struct file *job, const struct file *plan)
 {
     struct given given = { job, plan, NULL };
+    uint64_t result = seqopchi_judge(job->data, job->length, plan->data, plan->length);
 
-    add_refusal(b, result, &given);
+    if (result)
+        add_refusal(b, result, &given);
+    else
+        buffer_print(b, "passed");
 }
 
 int refused_task(uint64_t result, const struct file *job, const struct file *plan,

@@ -13,12 +13,12 @@ uint64_t ask_files(const struct file *job, const struct file *plan);
 uint64_t ask_new_task(const struct file *job, const struct file *plan,
                       const struct file *task);
 
-/* "refused 4 (value): byte 12 of .." without a line end. plan is null where
- * only a job was given. */
-void refusal_text(struct buffer *b, uint64_t result,
-                  const struct file *job, const struct file *plan);
+/* The judge's answer to a plan, "passed" or "refused 4 (value): byte 12 of ..", without
+ * a line end. */
+void verdict_text(struct buffer *b, const struct file *job, const struct file *plan);
 
-/* The same on standard error; gives the exit status 1. */
+/* A refusal on standard error; gives the exit status 1. plan is null where only a job
+ * was given. */
 int refused(uint64_t result, const struct file *job, const struct file *plan);
 
 /* The same where one more task was given too. */

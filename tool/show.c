@@ -87,16 +87,10 @@ static void add_job(struct buffer *b, const struct file *job)
     add_links(b, job);
 }
 
-static void add_verdict(struct buffer *b, const struct input *in)
+void add_verdict(struct buffer *b, const struct input *in)
 {
-    uint64_t result = seqopchi_judge(in->job.data, in->job.length,
-                                     in->plan.data, in->plan.length);
-
-    buffer_print(b, "\nplan, by the judge: ");
-    if (result)
-        refusal_text(b, result, &in->job, &in->plan);
-    else
-        buffer_print(b, "passed");
+    buffer_print(b, "plan, by the judge: ");
+    verdict_text(b, &in->job, &in->plan);
     buffer_print(b, "\n");
 }
 
@@ -148,6 +142,7 @@ int run_show(const struct options *o)
         return status;
     add_job(&text, &in.job);
     if (in.planned) {
+        buffer_print(&text, "\n");
         add_verdict(&text, &in);
         add_places(&text, &in);
         add_lanes(&text, &in);

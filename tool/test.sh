@@ -81,6 +81,7 @@ lines() { printf '%s\n' "$@"; }
 
 . "$home/tool/test_sending.sh"
 . "$home/tool/test_asking.sh"
+. "$home/tool/test_trace.sh"
 
 # --- good files -------------------------------------------------------------------
 
@@ -157,6 +158,7 @@ longest_job() { # longest_job TEXT BYTES
     good chart t.job t.plan -o t.svg
     good chart t.job t.plan --lose 0@100 -o t.svg
     good show t.job t.plan
+    traces t.job t.plan
 }
 
 round_trip_tests() {
@@ -519,7 +521,7 @@ turn=0
 damaged_pair() { # damaged_pair JOB PLAN COUNT
     local words
     for ((i = 0; i < $3; i++)); do
-        case $((turn++ % 10)) in
+        case $((turn++ % 11)) in
         0) words=(judge "$1" "$2") ;;
         1) words=(show "$1" "$2") ;;
         2) words=(plan "$1" -o d.out) ;;
@@ -530,6 +532,7 @@ damaged_pair() { # damaged_pair JOB PLAN COUNT
         7) words=(unpack "$1") ;;
         8) words=(ask "$1" "$2" d.task) ;;
         9) words=(commit "$1" "$2" d.task -o d.out d.plan2) ;;
+        10) words=(trace "$1" "$2") ;;
         esac
         [[ ! -e d.out ]] || rm d.out
         run "${words[@]}"
@@ -666,8 +669,8 @@ usage_tests() {
     done
     good --help
     good --version
-    check 'version' is out 'seqopchi 1.3, for job files of versions 1 to 3 and plan files of version 1'
-    for command in plan judge replay list show pack unpack chart ask commit; do
+    check 'version' is out 'seqopchi 1.4, for job files of versions 1 to 3 and plan files of version 1'
+    for command in plan judge replay list show trace pack unpack chart ask commit; do
         check "help lists $command" has <("$tool" --help) "  $command "
         good "$command" --help
         check "usage of $command" has out "Usage: seqopchi $command "
@@ -774,12 +777,14 @@ week_step() {
 }
 
 for group in sample round_trip example job_fault plan_fault rule ready ready_chart ready_file ready_text \
-    send send_chart send_file send_text ask commit stale full task_fault task_file task_text usage ask_usage input output commit_output week demo; do
+    send send_chart send_file send_text ask commit stale full task_fault task_file task_text trace trace_file usage ask_usage trace_usage \
+    input output commit_output week demo; do
     "${group}_tests"
 done
 ASAN_OPTIONS+=:detect_leaks=0 # half the time; leaks were looked for up to here
 text_damage_tests
 damage_tests
 task_damage_tests
+trace_damage_tests
 echo "tool: $passed passed, $failed failed"
 [[ $failed -eq 0 ]]

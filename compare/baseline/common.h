@@ -1,5 +1,5 @@
-/* What both baselines share: types, reading, the rules, the judge, writing, and the parts of ask
-   and commit that have no other way. Each file that includes this uses all of it. */
+/* What both baselines share: types, reading, the rules, the judge, writing, and the parts of ask,
+   commit and fault sets that have no other way. Each file that includes this uses all of it. */
 
 #ifndef BASELINE_COMMON_H
 #define BASELINE_COMMON_H
@@ -555,11 +555,36 @@ static void put_places(const struct layout *plan, uint32_t task, uint32_t *place
     places[3] = plan->backup[task].start;
 }
 
+/* The fault sets by themselves (request (v)): again each baseline has its own way. */
+static inline void find_fault_sets(const struct job *job, const struct layout *plan,
+                                   uint32_t *faults);
+
+/* Job and plan, then 17; the plan is not judged. */
+static uint64_t fault_sets(struct file job_file, struct file plan_file, uint8_t *out,
+                           size_t out_length)
+{
+    struct job job;
+    struct layout plan;
+    uint32_t faults[MAX_TASKS];
+    uint64_t refused = read_job(job_file, &job);
+    if (!refused)
+        refused = read_plan(plan_file, &job, &plan);
+    if (!refused && out_length < 4 * (size_t)job.tasks)
+        refused = refuse(SHORT_BUFFER, 4 * job.tasks, 0);
+    if (refused)
+        return refused;
+    find_fault_sets(&job, &plan, faults);
+    for (uint32_t task = 0; task < job.tasks; task++)
+        put_number(out + 4 * task, faults[task]);
+    return 0;
+}
+
 /* The C interface of one side, over its own `replay`, `ask` and `commit`; its planner has a
    function of its own. */
 #define EXPORT(side)                                                                              \
     EXPORT_JUDGE_AND_REPLAY(side)                                                                 \
-    EXPORT_ASK_AND_COMMIT(side)
+    EXPORT_ASK_AND_COMMIT(side)                                                                   \
+    EXPORT_FAULT_SETS(side)
 
 #define EXPORT_JUDGE_AND_REPLAY(side)                                                             \
     uint64_t side##_judge(const uint8_t *job, size_t job_length, const uint8_t *plan,             \
@@ -602,6 +627,14 @@ static void put_places(const struct layout *plan, uint32_t task, uint32_t *place
         if (!refused)                                                                             \
             refused = put_longer(&held, out_job, out_job_length, out_plan, out_plan_length);      \
         return refused;                                                                           \
+    }
+
+#define EXPORT_FAULT_SETS(side)                                                                   \
+    uint64_t side##_fault_sets(const uint8_t *job, size_t job_length, const uint8_t *plan,        \
+                               size_t plan_length, uint8_t *out, size_t out_length)               \
+    {                                                                                             \
+        return fault_sets(open_bytes(job, job_length), open_bytes(plan, plan_length), out,        \
+                          out_length);                                                            \
     }
 
 #endif

@@ -2,10 +2,11 @@
 
 #include "common.h"
 
-/* The judge. */
+/* The judge, and the fault sets by themselves. */
 
 /* Links rise by from, so a sender's set is whole before it is handed on. */
-static void find_fault_sets(const struct job *job, const struct layout *plan, uint32_t *faults)
+static inline void find_fault_sets(const struct job *job, const struct layout *plan,
+                                   uint32_t *faults)
 {
     for (uint32_t task = 0; task < job->tasks; task++)
         faults[task] = UINT32_C(1) << plan->primary[task].node;

@@ -1,7 +1,8 @@
-//! Judge, planner, replay, ask and commit on byte buffers, as the console calls them.
+//! Judge, planner, replay, ask, commit and fault sets on byte buffers, as the console calls them.
 
 use crate::asking;
 use crate::bookings::{read_booking, read_description};
+use crate::fault_sets;
 use crate::files::{read_job, read_plan, row_numbers, write_job, write_plan, Job, Plan};
 use crate::planner;
 use crate::refusal::{Refusal, NO_SUCH_NODE, SHORT_BUFFER};
@@ -26,10 +27,13 @@ pub struct Console {
     pub ask: Ask,
     /// Job, plan and booking; the longer job and the longer plan.
     pub commit: Commit,
+    /// Job and plan; bit q is for node q.
+    pub fault_sets: fn(&[u8], &[u8], &mut [u8]) -> u64,
 }
 
 /// The implementation of this package.
-pub const SECOND: Console = Console { name: "second", judge, plan, replay, ask, commit };
+pub const SECOND: Console =
+    Console { name: "second", judge, plan, replay, ask, commit, fault_sets };
 
 pub fn plan_bytes(tasks: usize) -> usize {
     8 + 16 * tasks
@@ -37,6 +41,10 @@ pub fn plan_bytes(tasks: usize) -> usize {
 
 pub fn replay_bytes(tasks: usize) -> usize {
     12 * tasks
+}
+
+pub fn sets_bytes(tasks: usize) -> usize {
+    4 * tasks
 }
 
 fn code(answer: Result<(), Refusal>) -> u64 {
@@ -113,6 +121,21 @@ fn try_commit(
     room_for(plan.len(), out_plan)?;
     put(&job, out_job);
     put(&plan, out_plan);
+    Ok(())
+}
+
+fn fault_sets(job: &[u8], plan: &[u8], out: &mut [u8]) -> u64 {
+    code(try_fault_sets(job, plan, out))
+}
+
+/// The judge is not asked.
+fn try_fault_sets(job: &[u8], plan: &[u8], out: &mut [u8]) -> Result<(), Refusal> {
+    let job = read_job(job)?;
+    let plan = read_plan(&job, plan)?;
+    room_for(sets_bytes(job.tasks.len()), out)?;
+    let sets = fault_sets::fault_sets(&job, &rules::layout(&job, &plan));
+    let bits = sets.iter().map(|set| set.iter().map(|&node| 1 << node).sum());
+    put(&bits.flat_map(u32::to_le_bytes).collect::<Vec<u8>>(), out);
     Ok(())
 }
 

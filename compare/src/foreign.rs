@@ -7,7 +7,7 @@ use crate::replay::Loss;
 macro_rules! c_console {
     (
         $module:ident, $judge:ident, $plan:ident, $replay:ident, $replay_loss:ident, $ask:ident,
-        $commit:ident
+        $commit:ident, $fault_sets:ident
     ) => {
         mod $module {
             use super::{Console, Loss, Places};
@@ -54,10 +54,18 @@ macro_rules! c_console {
                     out_plan: *mut u8,
                     out_plan_len: usize,
                 ) -> u64;
+                fn $fault_sets(
+                    job: *const u8,
+                    job_len: usize,
+                    plan: *const u8,
+                    plan_len: usize,
+                    out: *mut u8,
+                    out_len: usize,
+                ) -> u64;
             }
 
             pub const CONSOLE: Console =
-                Console { name: stringify!($module), judge, plan, replay, ask, commit };
+                Console { name: stringify!($module), judge, plan, replay, ask, commit, fault_sets };
 
             // Each slice is live and borrowed for the whole call, and the C side keeps none.
 
@@ -110,6 +118,12 @@ macro_rules! c_console {
                     )
                 }
             }
+
+            fn fault_sets(job: &[u8], plan: &[u8], out: &mut [u8]) -> u64 {
+                let (job, job_len) = (job.as_ptr(), job.len());
+                let (plan, plan_len) = (plan.as_ptr(), plan.len());
+                unsafe { $fault_sets(job, job_len, plan, plan_len, out.as_mut_ptr(), out.len()) }
+            }
         }
     };
 }
@@ -121,7 +135,8 @@ c_console!(
     seqopchi_replay,
     seqopchi_replay_loss,
     seqopchi_ask,
-    seqopchi_commit
+    seqopchi_commit,
+    seqopchi_fault_sets
 );
 c_console!(
     plain,
@@ -130,7 +145,8 @@ c_console!(
     plain_replay,
     plain_replay_loss,
     plain_ask,
-    plain_commit
+    plain_commit,
+    plain_fault_sets
 );
 c_console!(
     tuned,
@@ -139,7 +155,8 @@ c_console!(
     tuned_replay,
     tuned_replay_loss,
     tuned_ask,
-    tuned_commit
+    tuned_commit,
+    tuned_fault_sets
 );
 
 /// The library under test.

@@ -1,6 +1,6 @@
 //! A job, and the calls made on it.
 
-use crate::console::{plan_bytes, replay_bytes};
+use crate::console::{plan_bytes, replay_bytes, sets_bytes};
 use crate::files::{write_job, Job};
 use crate::random::Random;
 use crate::replay::Loss;
@@ -29,6 +29,10 @@ impl Given {
         Call { function: Function::Replay(loss), job: &self.bytes, plan, room }
     }
 
+    pub fn fault_sets<'a>(&'a self, plan: &'a [u8], room: usize) -> Call<'a> {
+        Call { function: Function::FaultSets, job: &self.bytes, plan, room }
+    }
+
     pub fn ask<'a>(&'a self, plan: &'a [u8], task: &'a [u8]) -> Call<'a> {
         Call { function: Function::Ask(task), job: &self.bytes, plan, room: 0 }
     }
@@ -54,11 +58,15 @@ impl Given {
     pub fn replay_room(&self) -> usize {
         replay_bytes(self.job.tasks.len())
     }
+
+    pub fn sets_room(&self) -> usize {
+        sets_bytes(self.job.tasks.len())
+    }
 }
 
 /// A buffer length near the one needed, or far too small.
 pub fn some_room(random: &mut Random, needed: usize) -> usize {
-    let near = needed - 5 + random.below(14);
+    let near = (needed + random.below(14)).saturating_sub(5);
     if random.percent(20) {
         random.below(needed)
     } else {

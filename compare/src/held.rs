@@ -25,12 +25,13 @@ impl Held {
     pub fn new(trial: &mut Trial, job: Job, plan: Plan, planned: bool) -> Result<Held, Mismatch> {
         let held = Held { plan_bytes: write_plan(&plan), given: Given::new(job), plan, planned };
         let call = held.given.judge(&held.plan_bytes);
-        match trial.compare(&call)? {
-            0 => Ok(held),
-            code => {
-                Err(Mismatch::new(&call, format!("answered {} to what is held", describe(code))))
-            }
+        let code = trial.compare(&call)?;
+        if code != 0 {
+            let text = format!("answered {} to what is held", describe(code));
+            return Err(Mismatch::new(&call, text));
         }
+        trial.compare(&held.given.fault_sets(&held.plan_bytes, held.given.sets_room()))?;
+        Ok(held)
     }
 
     pub fn job(&self) -> &Job {

@@ -1,4 +1,4 @@
-//! A second implementation of document 01 and of requests (i) to (iv) of document 02, and
+//! A second implementation of document 01 and of requests (i) to (v) of document 02, and
 //! what compares the proved library with it.
 
 pub mod asked_samples;
@@ -9,12 +9,14 @@ pub mod damage;
 pub mod descriptions;
 pub mod earlier;
 pub mod entries;
+pub mod fault_sets;
 pub mod faulty;
 pub mod files;
 pub mod fills;
 pub mod foreign;
 pub mod forgetful;
 pub mod framed;
+pub mod gathering;
 pub mod given;
 pub mod held;
 pub mod jobs;
@@ -29,6 +31,8 @@ pub mod rules;
 pub mod samples;
 pub mod sent_samples;
 pub mod sequences;
+pub mod set_calls;
+pub mod set_samples;
 pub mod sized;
 pub mod stack;
 pub mod survival;

@@ -9,6 +9,11 @@ impl Random {
         Random { state: seed }
     }
 
+    /// Another source, from where this one stands, which goes on as if nothing had been drawn.
+    pub fn aside(&self) -> Random {
+        Random::new(!self.state)
+    }
+
     /// The next 64 bits.
     pub fn draw(&mut self) -> u64 {
         self.state = self.state.wrapping_add(0x9e37_79b9_7f4a_7c15);

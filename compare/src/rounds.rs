@@ -15,6 +15,7 @@ use crate::random::Random;
 use crate::refusal::{Refusal, SAME_NODE, VERSION};
 use crate::replay::{replay, Loss, State};
 use crate::rules::{judge, layout, longest_weak_path};
+use crate::set_calls::{try_rooms, try_sets};
 use crate::survival::Survival;
 use crate::tally::Tally;
 use crate::trial::{Call, Function, Mismatch, Trial};
@@ -55,8 +56,9 @@ pub fn pair(trial: &mut Trial, job: &[u8], plan: &[u8]) -> Result<(), Mismatch> 
     let most = plan_bytes(TASKS.1 as usize) + 16;
     trial.compare(&Call { function: Function::Judge, job, plan, room: 0 })?;
     let lose = |node: u32| Function::Replay(Some(Loss { node, moment: 3 }));
+    let replay = Function::Replay(None);
     for room in 0..=most {
-        for function in [Function::Plan, Function::Replay(None), lose(0), lose(u32::MAX)] {
+        for function in [Function::Plan, replay, lose(0), lose(u32::MAX), Function::FaultSets] {
             trial.compare(&Call { function, job, plan, room })?;
         }
     }
@@ -148,7 +150,8 @@ fn try_changes(
     }
     for _ in 0..16 {
         let changed = write_plan(&changed_plan(random, &given.job, plan));
-        trial.compare(&given.judge(&changed))?;
+        let judged = trial.compare(&given.judge(&changed))?;
+        try_sets(trial, given, &changed, judged)?;
     }
     Ok(())
 }
@@ -218,10 +221,10 @@ fn try_send_times(
 /// A job that was changed under its plan.
 fn try_changed_job(trial: &mut Trial, job: Job, plan: &Plan) -> Result<(), Mismatch> {
     let (given, plan) = (Given::new(job), write_plan(plan));
-    trial.compare(&given.judge(&plan))?;
+    let judged = trial.compare(&given.judge(&plan))?;
     trial.compare(&given.plan(given.plan_room()))?;
     trial.compare(&given.replay(&plan, None, given.replay_room()))?;
-    Ok(())
+    try_sets(trial, &given, &plan, judged)
 }
 
 fn try_plan(
@@ -233,6 +236,8 @@ fn try_plan(
     let code = trial.compare(&given.judge(bytes))?;
     trial.compare(&given.replay(bytes, None, given.replay_room()))?;
     try_replay_rooms(trial, random, given, bytes)?;
+    try_rooms(trial, &mut random.aside(), given, bytes)?;
+    try_sets(trial, given, bytes, code)?;
     let Ok(plan) = read_plan(&given.job, bytes) else {
         return Ok(());
     };
@@ -345,7 +350,7 @@ fn try_every_length(trial: &mut Trial, given: &Given, plan: &[u8]) -> Result<(),
     Ok(())
 }
 
-/// The four functions on any two files.
+/// The functions of a round on any two files.
 fn try_files(
     trial: &mut Trial,
     random: &mut Random,
@@ -355,8 +360,8 @@ fn try_files(
     let room = random.pick(&[0, 100, 1_100]);
     let node = random.pick(&[0, 1, 2, 15, 16, u32::MAX]);
     let loss = Some(Loss { node, moment: random.between(0, 30) as u32 });
-    let functions =
-        [Function::Judge, Function::Plan, Function::Replay(None), Function::Replay(loss)];
+    let (whole, lossy) = (Function::Replay(None), Function::Replay(loss));
+    let functions = [Function::Judge, Function::Plan, whole, lossy, Function::FaultSets];
     let later = job.first_chunk().is_some_and(|&v| u64::from(u32::from_le_bytes(v)) > NEWEST);
     for function in functions {
         let code = trial.compare(&Call { function, job, plan, room })?;

@@ -1,5 +1,5 @@
 //! The samples of document 01, starred or not, sample 8 as request (i) of document 02 changes it;
-//! samples for request (ii), and those for requests (iii) and (iv), which have files of their own.
+//! samples for request (ii), and those for requests (iii) to (v), which have files of their own.
 
 use crate::asked_samples;
 use crate::console::{plan_bytes, replay_bytes, Console};
@@ -10,6 +10,7 @@ use crate::refusal::{
 };
 use crate::replay::Loss;
 use crate::sent_samples;
+use crate::set_samples;
 
 /// A plan's row as the samples write it: primary node, start; backup node, start.
 pub type Listed = [u64; 4];
@@ -20,7 +21,7 @@ type Written = [u32; 3];
 pub const SAMPLE_1: [Listed; 2] = [[0, 0, 1, 5], [0, 4, 1, 9]];
 
 /// The samples' job J, on a number of nodes.
-fn job_on(nodes: usize) -> Job {
+pub fn job_on(nodes: usize) -> Job {
     let task = |run: u64| Task { ready: 0, deadline: 30, run: vec![run; nodes] };
     Job {
         version: 1,
@@ -162,6 +163,7 @@ impl Check<'_> {
             (self.console.plan)(file, &mut out),
             (self.console.replay)(file, &plan, None, &mut out),
             (self.console.replay)(file, &plan, lost(3), &mut out),
+            (self.console.fault_sets)(file, &plan, &mut out),
         ];
         for got in results {
             self.expect(sample, got, Err(refusal));
@@ -183,6 +185,7 @@ pub fn run(console: &Console) -> (usize, Vec<String>) {
     ready_unread(&mut check);
     asked_samples::run(&mut check);
     sent_samples::run(&mut check);
+    set_samples::run(&mut check);
     (check.count, check.faults)
 }
 

@@ -2,7 +2,7 @@
 
 use std::ffi::c_void;
 
-use crate::console::{plan_bytes, replay_bytes, Console};
+use crate::console::{plan_bytes, replay_bytes, sets_bytes, Console};
 use crate::files::NEWEST;
 use crate::sized::{asked, planned};
 
@@ -13,7 +13,7 @@ extern "C" {
     fn stack_used(call: extern "C" fn(*mut c_void), argument: *mut c_void) -> usize;
 }
 
-type Used = [(&'static str, usize); 6];
+type Used = [(&'static str, usize); 7];
 
 /// Each function with the bytes of stack that it uses, in the version that takes most.
 pub fn used(console: &Console) -> Used {
@@ -30,6 +30,7 @@ fn used_in(console: &Console, version: u64) -> Used {
     let (job, plan) = (&case.job, &case.plan);
     let mut planned = vec![0; plan_bytes(case.tasks)];
     let mut replayed = vec![0; replay_bytes(case.tasks)];
+    let mut sets = vec![0; sets_bytes(case.tasks)];
     let new = asked(version, 16, 64, 512);
     let (held, held_plan) = (&new.held.job, &new.held.plan);
     let (mut longer, mut booked) = (vec![0; new.rooms.0], vec![0; new.rooms.1]);
@@ -42,6 +43,7 @@ fn used_in(console: &Console, version: u64) -> Used {
         ("replay_loss", measure(|| (console.replay)(job, plan, Some(case.loss), &mut replayed))),
         ("ask", measure(|| (console.ask)(held, held_plan, &new.task, &mut places))),
         ("commit", measure(&mut commit)),
+        ("fault_sets", measure(|| (console.fault_sets)(job, plan, &mut sets))),
     ]
 }
 

@@ -8,15 +8,26 @@ use crate::trial::Function;
 
 /// The columns of results. The last two count again what was asked and committed on a pair that
 /// passes, where the fault, if any, is in the description or the booking.
-const COLUMNS: [&str; 8] =
-    ["judge", "plan", "replay", "replay_loss", "ask", "commit", "held: ask", "held: commit"];
-const HELD_ASK: usize = 6;
-const HELD_COMMIT: usize = 7;
+const COLUMNS: [&str; 9] = [
+    "judge",
+    "plan",
+    "replay",
+    "replay_loss",
+    "ask",
+    "commit",
+    "fault_sets",
+    "held: ask",
+    "held: commit",
+];
+const HELD_ASK: usize = 7;
+const HELD_COMMIT: usize = 8;
 
-/// The refusals that ask and commit can give, and which of them on a pair that passes.
-const WANTED: [(usize, &[usize]); 4] = [
+/// The refusals that ask, commit and fault_sets can give, and which of the first two on a pair that
+/// passes.
+const WANTED: [(usize, &[usize]); 5] = [
     (4, &[1, 2, 3, 4, 5, 6, 7, 8, 9, 10, 11, 12, 13, 14, 15, 16, 19, 20]),
     (5, &[1, 2, 3, 4, 5, 6, 7, 8, 9, 10, 11, 12, 13, 14, 17, 19, 20, 21]),
+    (6, &[1, 2, 3, 4, 5, 6, 7, 17]),
     (HELD_ASK, &[1, 3, 4, 5, 6, 15, 16, 20]),
     (HELD_COMMIT, &[1, 3, 4, 5, 6, 7, 17, 20, 21]),
 ];
@@ -59,6 +70,14 @@ pub struct Tally {
     pub replayed_by_send: u64,
     pub asked_by_send: u64,
     pub planned_forgetfully: u64,
+    pub sets_passed: u64,
+    pub sets_refused: u64,
+    pub sets_unjudged: u64,
+    pub sets_of_two: u64,
+    pub sets_of_three: u64,
+    pub sets_in_reverse: u64,
+    pub sets_by_sender: u64,
+    pub sets_by_send: u64,
 }
 
 /// Something counted: how often it was met, in words, and how often a run of the default count has
@@ -78,6 +97,7 @@ impl Tally {
             Function::Replay(Some(_)) => 3,
             Function::Ask(_) => 4,
             Function::Commit(..) => 5,
+            Function::FaultSets => 6,
         };
         self.results[column][number_of(code)] += 1;
     }
@@ -92,7 +112,7 @@ impl Tally {
         self.results.iter().map(|column| column[number]).sum()
     }
 
-    /// What ask and commit should have given, in words.
+    /// What ask, commit and fault_sets should have given, in words.
     pub fn not_given(&self) -> impl Iterator<Item = String> + '_ {
         let all =
             WANTED.iter().flat_map(|&(column, numbers)| numbers.iter().map(move |&n| (column, n)));
@@ -121,6 +141,7 @@ impl Tally {
         ];
         let counts = counts.into_iter().chain(self.version_counts());
         let counts = counts.chain(self.sequence_counts()).chain(self.send_counts());
+        let counts = counts.chain(self.set_counts());
         counts.map(|(met, least, words)| Count { met, words, least })
     }
 
@@ -164,6 +185,20 @@ impl Tally {
             (self.replayed_by_send, 8_000, "replays that go otherwise with send times 0"),
             (self.asked_by_send, 400, "asked places that the send times moved"),
             (self.planned_forgetfully, 150, "planned jobs that the forgetful shortcut would move"),
+        ]
+    }
+
+    /// Request (v).
+    fn set_counts(&self) -> [(u64, u64, &'static str); 8] {
+        [
+            (self.sets_passed, 20_000, "calls for the fault sets of a passed plan"),
+            (self.sets_refused, 50_000, "calls for the fault sets of a refused plan"),
+            (self.sets_unjudged, 20_000, "plans refused before rule E with a set of two or more"),
+            (self.sets_of_two, 150_000, "fault sets of two nodes or more"),
+            (self.sets_of_three, 60_000, "fault sets of three nodes or more"),
+            (self.sets_in_reverse, 15_000, "plans whose sets go wrong with the links in reverse"),
+            (self.sets_by_sender, 40_000, "plans whose sets grow too soon by sending task"),
+            (self.sets_by_send, 2_000, "plans whose sets are others with send times 0"),
         ]
     }
 }

@@ -17,6 +17,7 @@ pub enum Function<'a> {
     Ask(&'a [u8]),
     /// With the booking, and the length of the plan's output buffer.
     Commit(&'a [u8], usize),
+    FaultSets,
 }
 
 impl<'a> Function<'a> {
@@ -64,6 +65,7 @@ impl fmt::Display for Call<'_> {
                 write!(f, "commit({job}, {plan}, booking of {entry} bytes, {room}, ")?;
                 write!(f, "buffer of {plan_room} bytes)")
             }
+            Function::FaultSets => write!(f, "fault_sets({job}, {plan}, {room})"),
         }
     }
 }
@@ -223,5 +225,6 @@ fn make(console: &Console, function: Function, inputs: [&[u8]; 3], outputs: Outp
         Function::Replay(loss) => (console.replay)(job, plan, loss, first),
         Function::Ask(_) => (console.ask)(job, plan, entry, places),
         Function::Commit(..) => (console.commit)(job, plan, entry, first, second),
+        Function::FaultSets => (console.fault_sets)(job, plan, first),
     }
 }

@@ -3,26 +3,6 @@
 
 #include <string.h>
 
-static int is_marked(const void *output, size_t length)
-{
-    const uint8_t *bytes = output;
-
-    for (size_t i = 0; i < length; i++)
-        if (bytes[i] != MARK)
-            return 0;
-    return 1;
-}
-
-/* A refusal, by which nothing is written. */
-static void expect_kept(enum call call, size_t out_len, unsigned number,
-                        size_t first, size_t second)
-{
-    expect(call, out_len, number, first, second);
-    check(is_marked(out, ROOM), "a refusal writes the job");
-    check(is_marked(out_plan, ROOM), "a refusal writes the plan");
-    check(is_marked(places, sizeof places), "a refusal writes the places");
-}
-
 /* Read well: whatever comes behind the faults of description and booking. */
 static void expect_read(enum call call)
 {
@@ -191,14 +171,6 @@ static void check_full(void)
     expect_full(usual[TASKS], SEQOPCHI_MAX_LINKS, 0, 0);
     expect_full(usual[TASKS], SEQOPCHI_MAX_LINKS - 2, 3, 1);
     expect_full(usual[TASKS], SEQOPCHI_MAX_LINKS - 2, 2, 0);
-}
-
-/* One output of a commit: all its bytes are written, and none behind them. */
-static void check_written(const uint8_t *output, size_t length)
-{
-    check(output[length - 1] != MARK, "the last byte is not written");
-    check(is_marked(output + length, ROOM - length),
-          "a byte behind the output is written");
 }
 
 /* The room that a commit needs: 17 for the job first, then for the plan, behind 21. */

@@ -7,7 +7,7 @@
 
 static const char *const call_names[CALLS] = {
     "seqopchi_judge", "seqopchi_plan", "seqopchi_replay", "seqopchi_replay_loss",
-    "seqopchi_ask", "seqopchi_commit"
+    "seqopchi_fault_sets", "seqopchi_ask", "seqopchi_commit"
 };
 
 const char *const field_names[FIELDS] = {
@@ -160,11 +160,11 @@ void write_planned(enum field field, uint32_t number)
     memcpy(plan.data, out, plan.length);
 }
 
-void write_two_tasks(const uint32_t rows[8])
+void write_rows(uint32_t tasks, const uint32_t *rows)
 {
-    write_files(TASKS, 2);
+    write_files(TASKS, tasks);
     plan.length = SEQOPCHI_PLAN_BYTES(0);
-    for (int k = 0; k < 8; k++)
+    for (uint32_t k = 0; k < 4 * tasks; k++)
         put(&plan, PRIMARY + k % 4, rows[k]);
 }
 
@@ -185,6 +185,9 @@ uint64_t result_of(enum call call, size_t out_len)
     case LOSS:
         return seqopchi_replay_loss(job.data, job.length, plan.data, plan.length,
                                     lost_node, lost_moment, out, out_len);
+    case SETS:
+        return seqopchi_fault_sets(job.data, job.length, plan.data, plan.length,
+                                   out, out_len);
     case ASK:
         return seqopchi_ask(job.data, job.length, plan.data, plan.length,
                             task.data, task.length, places);
@@ -218,4 +221,38 @@ void expect(enum call call, size_t out_len, unsigned number,
     snprintf(wanted, sizeof wanted, "%u (%s) %lu / %lu", number, seqopchi_word(number),
              (unsigned long)first, (unsigned long)second);
     check_result(same, call, r, wanted);
+}
+
+int is_marked(const void *output, size_t length)
+{
+    const uint8_t *bytes = output;
+
+    for (size_t i = 0; i < length; i++)
+        if (bytes[i] != MARK)
+            return 0;
+    return 1;
+}
+
+void expect_kept(enum call call, size_t out_len, unsigned number,
+                 size_t first, size_t second)
+{
+    expect(call, out_len, number, first, second);
+    check(is_marked(out, ROOM), "a refusal writes to out");
+    check(is_marked(out_plan, ROOM), "a refusal writes the plan");
+    check(is_marked(places, sizeof places), "a refusal writes the places");
+}
+
+void check_written(const uint8_t *output, size_t length)
+{
+    check(output[length - 1] != MARK, "the last byte is not written");
+    check(is_marked(output + length, ROOM - length),
+          "a byte behind the output is written");
+}
+
+void check_output(const char *macro, enum call call, size_t length)
+{
+    about(macro, "length", length);
+    expect_kept(call, length - 1, SEQOPCHI_REFUSED_SHORT_BUFFER, length, 0);
+    expect(call, length, SEQOPCHI_DONE, 0, 0);
+    check_written(out, length);
 }

@@ -97,17 +97,6 @@ static void check_file(const char *macro, struct file *f, size_t length)
     f->length = length;
 }
 
-/* With a byte less there is too little room; with that length all of it is written. */
-static void check_output(const char *macro, enum call call, size_t length)
-{
-    about(macro, "length", length);
-    expect(call, length - 1, SEQOPCHI_REFUSED_SHORT_BUFFER, length, 0);
-    check(out[0] == MARK, "a refusal writes");
-    expect(call, length, SEQOPCHI_DONE, 0, 0);
-    check(out[length - 1] != MARK, "the last byte is not written");
-    check(out[length] == MARK, "a byte behind the output is written");
-}
-
 /* Each corner of the shapes; the greatest job comes last. */
 static void check_job_lengths(void)
 {
@@ -204,7 +193,7 @@ static const struct rule { unsigned number, first, second; uint32_t rows[8]; } r
 static void write_rule(const struct rule *r)
 {
     about("enum seqopchi_refusal", "rule", r->number);
-    write_two_tasks(r->rows);
+    write_rows(2, r->rows);
 }
 
 static void check_rules(void)
@@ -302,6 +291,7 @@ static void check_version(void)
     check_outcomes(3, SEQOPCHI_CUT, SEQOPCHI_FINISHED);
     check_outcomes(4, SEQOPCHI_FINISHED, SEQOPCHI_NOT_STARTED);
     check_asking();
+    check_sets();
     if (version >= since[READY])
         check_readiness();
     if (version >= since[SEND])

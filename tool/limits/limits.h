@@ -10,7 +10,7 @@
 
 #define OLDEST_JOB_VERSION 1
 
-enum call { JUDGE, PLAN, REPLAY, LOSS, ASK, COMMIT, CALLS };
+enum call { JUDGE, PLAN, REPLAY, LOSS, SETS, ASK, COMMIT, CALLS };
 
 /* The numbers of a job, of a plan, of a description and of a booking's place. */
 enum field {
@@ -54,8 +54,9 @@ void write_task(void); /* and the booking */
 void write_files(enum field field, uint32_t number);
 /* The same, and the planner's plan of the job. */
 void write_planned(enum field field, uint32_t number);
-/* Two linked tasks and a plan: node and start of primary and backup of each. */
-void write_two_tasks(const uint32_t rows[8]);
+/* So many tasks, task 0 linked to the next one or two, and a plan: node and start of
+ * primary and backup of each. */
+void write_rows(uint32_t tasks, const uint32_t *rows);
 
 /* One call, with so many bytes of out. */
 uint64_t result_of(enum call call, size_t out_len);
@@ -63,10 +64,23 @@ void check_result(int fine, enum call call, uint64_t r, const char *wanted);
 void expect(enum call call, size_t out_len, unsigned number,
             size_t first, size_t second);
 
+/* Whether a call has left all these bytes as they were. */
+int is_marked(const void *output, size_t length);
+/* A refusal, by which nothing is written. */
+void expect_kept(enum call call, size_t out_len, unsigned number,
+                 size_t first, size_t second);
+/* One output: all its bytes are written, and none behind them. */
+void check_written(const uint8_t *output, size_t length);
+/* With a byte less there is too little room; with that length all of it is written. */
+void check_output(const char *macro, enum call call, size_t length);
+
 /* Descriptions and bookings: limits, lengths, and what ask and commit write. */
 void check_asking(void);
 
 /* Send times, in a version that has them. */
 void check_sending(void);
+
+/* Fault sets: lengths, what is written, and the order of refusals. */
+void check_sets(void);
 
 #endif

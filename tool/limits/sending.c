@@ -1,4 +1,4 @@
-/* Send times: the delay that judge, planner, replay, ask and commit take. */
+/* Send times: the delay that judge, planner, replay, sets, ask and commit take. */
 #include "limits.h"
 
 #include <string.h>
@@ -17,33 +17,36 @@ static void set_sends(const uint32_t send[3])
 
 /* Plans of two linked tasks that pass, with a result that arrives just in time. If the
  * sender takes a tick more, a rule is broken, and in the run with that loss the copies
- * of task 1 have other outcomes. A send time that has no part in it, on one node or
- * where the result arrives, is the greatest. */
+ * of task 1 have other outcomes. Its fault set, in time and too late, is told too. A
+ * send time that has no part in it, on one node or where the result arrives, is the
+ * greatest. */
 static const struct edge {
     uint32_t send[3], sender, rows[8];
     unsigned number, first, second;
     uint32_t node, moment;
     uint8_t in_time[2], too_late[2];
+    uint8_t sets[2];
 } edges[] = {
     /* from primary to primary */
     { { 3, MOST, MOST }, 0, { 0, 0, 1, 5, 2, 9, 1, 14 },
       SEQOPCHI_REFUSED_PRIMARY_UNFED, 0, 1, 1, 0,
       { SEQOPCHI_FINISHED, SEQOPCHI_NOT_STARTED },
-      { SEQOPCHI_NOT_STARTED, SEQOPCHI_NOT_STARTED } },
+      { SEQOPCHI_NOT_STARTED, SEQOPCHI_NOT_STARTED }, { 5, 5 } },
     /* from primary to backup; both primaries are on one node */
     { { 3, MOST, MOST }, 0, { 0, 0, 1, 5, 0, 4, 1, 9 },
       SEQOPCHI_REFUSED_BACKUP_UNFED, 0, 1, 0, 5,
-      { SEQOPCHI_CUT, SEQOPCHI_FINISHED }, { SEQOPCHI_CUT, SEQOPCHI_NOT_STARTED } },
+      { SEQOPCHI_CUT, SEQOPCHI_FINISHED }, { SEQOPCHI_CUT, SEQOPCHI_NOT_STARTED },
+      { 1, 1 } },
     /* from backup to backup */
     { { 0, 3, MOST }, 1, { 0, 0, 1, 5, 0, 4, 2, 14 },
       SEQOPCHI_REFUSED_BACKUP_UNFED, 0, 1, 0, 3,
       { SEQOPCHI_NOT_STARTED, SEQOPCHI_FINISHED },
-      { SEQOPCHI_NOT_STARTED, SEQOPCHI_NOT_STARTED } },
+      { SEQOPCHI_NOT_STARTED, SEQOPCHI_NOT_STARTED }, { 1, 1 } },
     /* from backup to primary: the link is strong, then weak, and the loss is common */
     { { 0, 3, MOST }, 1, { 0, 0, 1, 5, 2, 14, 0, 19 },
       SEQOPCHI_REFUSED_COMMON_LOSS, 1, 1, 0, 3,
       { SEQOPCHI_FINISHED, SEQOPCHI_NOT_STARTED },
-      { SEQOPCHI_NOT_STARTED, SEQOPCHI_NOT_STARTED } }
+      { SEQOPCHI_NOT_STARTED, SEQOPCHI_NOT_STARTED }, { 4, 5 } }
 };
 
 static void expect_outcomes(const struct edge *e, const uint8_t outcomes[2])
@@ -57,20 +60,28 @@ static void expect_outcomes(const struct edge *e, const uint8_t outcomes[2])
     check(row[4] == outcomes[1], "another outcome of the backup");
 }
 
+static void expect_set(uint8_t set)
+{
+    expect(SETS, ROOM, SEQOPCHI_DONE, 0, 0);
+    check(out[SEQOPCHI_FAULT_SETS_BYTES(1)] == set, "another fault set");
+}
+
 static void check_edge(const struct edge *e)
 {
     uint32_t send[3];
 
     about("the delay", "send time", e->send[e->sender]);
     memcpy(send, e->send, sizeof send);
-    write_two_tasks(e->rows);
+    write_rows(2, e->rows);
     set_sends(send);
     expect(JUDGE, 0, SEQOPCHI_DONE, 0, 0);
     expect_outcomes(e, e->in_time);
+    expect_set(e->sets[0]);
     send[e->sender]++;
     set_sends(send);
     expect(JUDGE, 0, e->number, e->first, e->second);
     expect_outcomes(e, e->too_late);
+    expect_set(e->sets[1]);
 }
 
 /* The run time of the last task on node 0, of three. */

@@ -40,9 +40,10 @@ enum Work {
     // links of the one that is asked for: the longer job has the size of the other rows.
     Ask,
     Commit,
+    FaultSets,
 }
 
-const WORKS: [(Work, &str); 7] = [
+const WORKS: [(Work, &str); 8] = [
     (Work::Reading, "reading the job"),
     (Work::Judge, "judge"),
     (Work::Plan, "plan"),
@@ -50,6 +51,7 @@ const WORKS: [(Work, &str); 7] = [
     (Work::ReplayLoss, "replay_loss"),
     (Work::Ask, "ask"),
     (Work::Commit, "commit"),
+    (Work::FaultSets, "fault_sets"),
 ];
 
 /// All that a call may write.
@@ -152,6 +154,7 @@ fn call(console: &Console, case: &Case, work: Work, out: &mut Output) -> u64 {
         Work::ReplayLoss => (console.replay)(job, plan, Some(*loss), bytes),
         Work::Ask => (console.ask)(&held.job, &held.plan, task, places),
         Work::Commit => (console.commit)(&held.job, &held.plan, booking, longer_job, longer_plan),
+        Work::FaultSets => (console.fault_sets)(job, plan, bytes),
     }
 }
 

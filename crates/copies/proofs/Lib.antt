@@ -1,6 +1,9 @@
 pub mod ListMore
 pub mod SetLaws
+pub mod MemberLaws
 pub mod TableLaws
 pub mod ArrivalLaws
 pub mod ChainLaws
 pub mod ClashLaws
+pub mod GatherLaws
+pub mod NumberLaws

@@ -3,3 +3,4 @@ pub mod Arrival
 pub mod Table
 pub mod Chain
 pub mod Clash
+pub mod Gathered

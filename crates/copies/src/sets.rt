@@ -1,4 +1,5 @@
 // Sets of nodes and of tasks: the bits of a number.
+ghost use mathlib.Core.Bool.{cond};
 ghost use mathlib.Core.Path.{_≡_};
 ghost use Prim.Native.Nat.{_^_, _<_};
 ghost use Rattle.copies.specs.Sets.{has};
@@ -25,4 +26,18 @@ pub fn holds_node(set: u32, n: u32) -> bool
     ensures { λ r. ⌜ r ≡ has set n ⌝ }
 {
     (set >> n) % 2 == 1
+}
+
+fn one_unless(kept: bool) -> u64
+    ensures { λ r. ⌜ r ≡ cond kept 0 1 ⌝ }
+{
+    if kept { 0 } else { 1 }
+}
+
+// The set of task i where its result is late, else none.
+pub fn late_bit(kept: bool, i: usize) -> u64
+    requires { ⌜ i < 64 ⌝ }
+    ensures { λ r. ⌜ r ≡ cond kept 0 (2 ^ i) ⌝ }
+{
+    one_unless(kept) << i
 }

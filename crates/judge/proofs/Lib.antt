@@ -8,3 +8,4 @@ pub mod BackupLaws
 pub mod GatherLaws
 pub mod OverlapLaws
 pub mod PlanLaws
+pub mod NumberLaws

@@ -33,12 +33,13 @@ use Rattle.copies.specs.declared.table.Copies.{Copies}
 use Rattle.copies.specs.Sets.{has}
 use Rattle.copies.specs.Arrival.{comes, resultOf, resultAt, SumFits}
 use Rattle.copies.specs.Table.{copyCount, entry, rowOf}
+use Rattle.copies.specs.Gathered.{weakLink}
 use Rattle.copies.proofs.ArrivalLaws.{comes-is}
 use Rattle.copies.proofs.ListMore.{replicated}
 use Rattle.copies.proofs.SetLaws.{has-union, has-one, has-none}
 use Rattle.judge.specs.Notes.{nowhere, firstBroken, notedOf, seen}
 use Rattle.judge.specs.Parts.{byLinks}
-use Rattle.judge.specs.Links.{linked, Timed, weakLink, WeakTo, sure, SureBut, LinksJudged}
+use Rattle.judge.specs.Links.{linked, Timed, WeakTo, sure, SureBut, LinksJudged}
 use Rattle.judge.proofs.NoteLaws.{note-start, note-more, note-below, note-seen}
 use Rattle.judge.proofs.SetMore.{joins-unless, stays}
 
@@ -49,7 +50,7 @@ module _ (job : Job) (t : ℕ → Row) (k : ℕ) where
 
   weak-strong : (i j : ℕ) → isStrong ≡ true → weakLink job t i j k ≡ false
   unfolding weakLink _and_
-  weak-strong i j e = rw e (last (eqb (link job k .from) i) (eqb (link job k .to) j))
+  weak-strong i j e = rw e (last (eqb (link job k .to) j) (eqb (link job k .from) i))
     where
       last : (a b : Bool) → (a and b and false) ≡ false
       last true true = refl
@@ -58,11 +59,11 @@ module _ (job : Job) (t : ℕ → Row) (k : ℕ) where
 
   weak-other : (i j : ℕ) → eqb (link job k .to) j ≡ false → weakLink job t i j k ≡ false
   unfolding weakLink _and_
-  weak-other i j e = split (eqb (link job k .from) i) (λ h. rw (h, e)) (λ h. rw h)
+  weak-other i j e = rw e
 
   weak-here : (i j : ℕ) → isStrong ≡ false → eqb (link job k .to) j ≡ true → weakLink job t i j k ≡ eqb (link job k .from) i
   unfolding weakLink _and_
-  weak-here i j w e = split (eqb (link job k .from) i) (λ h. rw (h, e, w)) (λ h. rw h)
+  weak-here i j w e = split (eqb (link job k .from) i) (λ h. rw (e, h, w)) (λ h. rw (e, h))
 
   -- the bit that it adds
   weak-bit : (i j : ℕ) (s : Bool) (bit : ℕ) → eqb (link job k .to) j ≡ true → s ≡ isStrong → bit ≡ cond s 0 (2 ^ (link job k .from))

@@ -1,14 +1,14 @@
 -- The judge is its four parts, and each part reads no more of a table than it names.
 use Prim.Native.Nat.{ℕ, _<_}
 use mathlib.Core.Path.{_≡_, ap₂}
-use native.Mathlib.Omega.{arith}
 use Rattle.reader.specs.declared.job.Job.{Job}
 use Rattle.reader.specs.First.{_or-else_}
-use Rattle.reader.specs.Entries.{tasks, links, link}
+use Rattle.reader.specs.Entries.{tasks, links}
 use Rattle.reader.specs.Sound.{Sound}
 use Rattle.reader.proofs.FirstLaws.{first-same}
 use Rattle.rules.specs.Rules.{Row, ruleD}
 use Rattle.rules.specs.Judge.{firstTask, firstLink, firstPair, breach}
+use Rattle.rules.proofs.FaultSetLaws.{from-low}
 use Rattle.reader.proofs.FirstLaws.{or-else-join}
 use Rattle.judge.specs.Parts.{byTasks, byLinks, byBackups, byFaults}
 
@@ -16,9 +16,6 @@ pub breach-parts : (job : Job) (t : ℕ → Row)
     → (byTasks job t or-else byLinks job t or-else byBackups job t or-else byFaults job t) ≡ breach job t
 unfolding breach byTasks byLinks byBackups byFaults
 breach-parts job t = simp or-else-join
-
-pub from-low : (job : Job) → Sound job → (k : ℕ) → k < links job → link job k .from < tasks job
-from-low job sound k p = omega (arith, sound .rise k p, sound .into k p)
 
 module _ (job : Job) (sound : Sound job) (f g : ℕ → Row) where
   -- tables with the same primaries

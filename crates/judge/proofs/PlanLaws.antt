@@ -8,44 +8,46 @@ use mathlib.Core.Path.{_≡_, refl, sym, _∙_, ap, ap₂, subst, fun-ext}
 use native.Mathlib.Decide.{decLt}
 use native.Mathlib.Nat.{not-suc-le-zero}
 use native.Mathlib.Omega.{arith}
-use lib.Dec.{eqb}
 use lib.ListN.{getD}
-use borrow.Author.Tests.{eqb-true, eq-eqb}
+use borrow.Author.Tests.{eq-eqb}
 use Rattle.reader.specs.declared.job.Job.{Job}
 use Rattle.reader.specs.declared.plan.Plan.{Plan}
 use Rattle.reader.specs.declared.refusal.Refusal.{Refusal}
 use Rattle.reader.specs.declared.refusal.Answer.{Answer}
 use Rattle.reader.specs.declared.refusal.Answer.the-variants.{Done, Refused}
 use Rattle.reader.specs.First.{_or-else_}
-use Rattle.reader.specs.Limits.{maxTasks, maxStart, maxTime}
+use Rattle.reader.specs.Limits.{maxStart, maxTime}
 use Rattle.reader.specs.Entries.{nodes, tasks, links, task, link, run}
 use Rattle.reader.specs.Refusals.{answered}
 use Rattle.reader.specs.Sound.{Sound, PlanSound}
-use Rattle.reader.proofs.TestLaws.{split, clash, and-i, and-l, and-r, or-l, or-r, or-e, not-e, not-i, same-test}
-use Rattle.reader.proofs.FirstLaws.{first-same, first-none, none-unless, any-i, any-e}
+use Rattle.reader.proofs.TestLaws.{split, clash}
+use Rattle.reader.proofs.FirstLaws.{first-same, first-none, none-unless, any-same}
 use Rattle.rules.specs.declared.Copy.{Copy}
 use Rattle.rules.specs.Copies.{copy, inTime, domain}
 use Rattle.rules.specs.Rules.{Row, strong, rows, ruleE, ruleF}
 use Rattle.rules.specs.Waits.{waitsForBoth}
 use Rattle.rules.specs.Judge.{firstTask, firstLink, judge}
-use Rattle.rules.proofs.FaultSetLaws.{faults-here, faults-over, faults-e, rows-faults, row-primary, row-backup}
+use Rattle.rules.specs.Gathering.{ownNode}
+use Rattle.rules.proofs.FaultSetLaws.{from-low, faults-here, faults-e, rows-faults, row-primary, row-backup}
+use Rattle.rules.proofs.GatheringLaws.{gathered-none, gathered-all}
 use Rattle.rules.proofs.Waits.{both-keeps}
 use Rattle.copies.specs.declared.table.Copies.{Copies}
 use Rattle.copies.specs.Sets.{has}
 use Rattle.copies.specs.Arrival.{leaveOf, Leaving}
 use Rattle.copies.specs.Table.{table, entry, rowOf, Held}
-use Rattle.copies.proofs.SetLaws.{has-none}
+use Rattle.copies.specs.Gathered.{weakLink, SetsTo}
+use Rattle.copies.proofs.SetLaws.{has-none, has-one}
 use Rattle.copies.proofs.TableLaws.{same-row}
 use Rattle.copies.proofs.ArrivalLaws.{backup-fed, result-is}
 use Rattle.judge.specs.Parts.{byTasks, byLinks, byBackups, byFaults}
 use Rattle.judge.specs.Tasks.{CopyFits, Copied, TasksJudged}
-use Rattle.judge.specs.Links.{linked, Timed, weakLink, WeakTo, sure, SureBut, LinksJudged}
+use Rattle.judge.specs.Links.{linked, Timed, WeakTo, sure, SureBut, LinksJudged}
 use Rattle.judge.specs.declared.links.Walked.{Walked}
 use Rattle.judge.specs.Backups.{linkFeeds, backupBreach, Unsure}
-use Rattle.judge.specs.Faults.{gathered, Senders, FaultSets, Low, lossBreach}
+use Rattle.judge.specs.Faults.{Receiving, GathersAll, Low, lossBreach}
 use Rattle.judge.specs.Overlaps.{faultBreach}
 use Rattle.judge.proofs.ScanLaws.{done-none, after, stop}
-use Rattle.judge.proofs.PartLaws.{breach-parts, from-low, links-same, backups-same, faults-same}
+use Rattle.judge.proofs.PartLaws.{breach-parts, links-same, backups-same, faults-same}
 use Rattle.judge.proofs.TaskLaws.{placeable}
 use Rattle.judge.proofs.LinkLaws.{isStrong}
 use Rattle.judge.proofs.OverlapLaws.{pairs-are}
@@ -73,7 +75,7 @@ module _ (job : Job) (plan : Plan) (sound : Sound job) (reads : PlanSound job pl
   able j n s q r fits = record { on = q; lasts = omega arith; ends = fits .ends }
 
   -- a fault set has nodes of the job only
-  faults-low : (n j q : ℕ) → j < n → n ≤ tasks job → t j .faults q ≡ true → q < nodes job
+  pub faults-low : (n j q : ℕ) → j < n → n ≤ tasks job → t j .faults q ≡ true → q < nodes job
   unfolding domain copy
   faults-low zero j q b p h = absurd (not-suc-le-zero b)
   faults-low (suc n) j q b p h =
@@ -116,115 +118,76 @@ module _ (job : Job) (plan : Plan) (sound : Sound job) (reads : PlanSound job pl
     strong-same k p =
         ap₂ (inTime job (link job k)) (copied .backup _ (from-low job sound k p)) (copied .primary _ (sound .into k p))
 
-    module _ (into : List ℕ) (weak : WeakTo job (rowOf cs) (links job) into) where
-      -- a weak link, from the bits and to them
-      weak-e : (j i : ℕ) → j < tasks job → has (getD into j 0) i ≡ true
-          → {C : Type 0} → ((k : ℕ) → k < links job → link job k .from ≡ i → link job k .to ≡ j → isStrong job t k ≡ false → C) → C
-      unfolding weakLink
-      weak-e j i p h go =
-          any-e (links job) _ (sym (weak j i (omega (arith, sound .tasks-most))) ∙ h) λ k pk e.
-          go k pk (eqb-true (link job k .from) i (and-l _ _ e)) (eqb-true (link job k .to) j (and-l _ _ (and-r _ _ e)))
-          (sym (strong-same k pk) ∙ not-e _ (and-r _ _ (and-r _ _ e)))
+    -- and so are the tasks from which they arrive
+    receiving : (into : List ℕ) → WeakTo job (rowOf cs) (links job) into → Receiving job plan into (tasks job)
+    unfolding weakLink
+    receiving into weak =
+        record {
+          sound = sound;
+          count = refl;
+          arrives = λ j p i. weak j i (omega (arith, sound .tasks-most)) ∙ any-same (links job) _ _ (λ k pk. rw (strong-same k pk));
+        }
 
-      weak-i : (k : ℕ) → k < links job → isStrong job t k ≡ false → has (getD into (link job k .to) 0) (link job k .from) ≡ true
-      unfolding weakLink
-      weak-i k p h =
-          weak _ _ (omega (arith, sound .into k p, sound .tasks-most))
-          ∙ any-i (links job) _ k p
-          (and-i _ _ (eq-eqb (link job k .from) _ refl) (and-i _ _ (eq-eqb (link job k .to) _ refl) (not-i _ (strong-same k p ∙ h))))
+    -- the sets, and when the results leave
+    module _ (sets : List ℕ) (filled : SetsTo job plan (tasks job) sets)
+        (leave : List ℕ) (left : (k : ℕ) → k < 2 * tasks job → getD leave k 0 ≡ leaveOf job (entry cs k)) where
+      abbrev final : Copies
+      final = table (cs .node) (cs .start) (cs .finish) sets
 
-      pub senders : Senders (cs .node) into (tasks job)
-      senders =
+      faults-at : (j q : ℕ) → j < tasks job → has (getD sets (2 * j + 1) 0) q ≡ t j .faults q
+      faults-at j q p = filled .faults j q p ∙ ap (λ f. f q) (gathered-all job plan j p)
+
+      rows-are : (j : ℕ) → j < tasks job → rowOf final j ≡ t j
+      unfolding rowOf
+      rows-are j p = same-row _ _ _ _ _ _ (copied .primary j p) (copied .backup j p) (fun-ext λ q. faults-at j q p)
+
+      held : Held job (tasks job) final
+      unfolding domain
+      held =
           record {
-            few = sound .tasks-most;
-            on = λ j p. omega (arith, entry-able (2 * j) (omega arith) .on, sound .nodes-most);
-            earlier = λ j i p h. weak-e j i p h (λ k pk from to w. omega (arith, sound .rise k pk));
+            node = λ k p. entry-able k p .on;
+            lasts = λ k p. entry-able k p .lasts;
+            ends = λ k p. entry-able k p .ends;
+            primary-set = filled .primary;
+            own = λ i p.
+                faults-at i _ p ∙ ap (λ f. f (getD (cs .node) (2 * i) 0)) (rows-faults job sound plan i p)
+                ∙ faults-here job t i (t i .primary) _ (eq-eqb _ _ (sym (ap (λ (c : Copy). c .node) (copied .primary i p))));
+            within = λ i q p h. faults-low (tasks job) i q p (omega arith) (sym (faults-at i q p) ∙ h);
           }
 
-      -- the sets, and when the results leave
-      module _ (sets : List ℕ) (filled : FaultSets (cs .node) into (tasks job) (tasks job) sets)
-          (leave : List ℕ) (left : (k : ℕ) → k < 2 * tasks job → getD leave k 0 ≡ leaveOf job (entry cs k)) where
-        abbrev final : Copies
-        final = table (cs .node) (cs .start) (cs .finish) sets
+      -- E at link k, by the table
+      feeds-is : (k : ℕ) → k < links job
+          → linkFeeds (job .links) final leave k ≡ ruleE job (link job k) (rowOf final (link job k .from)) (rowOf final (link job k .to))
+      unfolding linkFeeds rowOf
+      feeds-is k p =
+          let low = from-low job sound k p in
+          rw (left (2 * link job k .from) (omega arith), left (2 * link job k .from + 1) (omega arith))
+          (backup-fed job final (tasks job) held _ (rowOf final (link job k .to)) refl (link job k) _ low)
 
-        faults-are : (n j q : ℕ) → j < n → n ≤ tasks job → has (getD sets (2 * j + 1) 0) q ≡ t j .faults q
-        unfolding gathered domain
-        faults-are zero j q b p = absurd (not-suc-le-zero b)
-        faults-are (suc n) j q b p =
-            let low : j < tasks job = omega arith in
-            let own : getD (cs .node) (2 * j) 0 ≡ t j .primary .node = ap (λ (c : Copy). c .node) (copied .primary j low) in
-            filled .backup j q low
-            ∙ same-test _ _
-            (λ h. or-e _ _ h
-            (λ e. faults-here job t j (t j .primary) q (ap (λ m. eqb m q) (sym own) ∙ e))
-            (λ e. any-e maxTasks _ e λ i pi s. weak-e j i low (and-l _ _ s) λ k pk from to w.
-            faults-over job t j (t j .primary) q k pk (eq-eqb (link job k .to) j to)
-            (subst (λ m. strong job (link job k) (t (link job k .from)) (t m .primary) ≡ false) to w)
-            (subst (λ m. t m .faults q ≡ true) (sym from)
-            (sym (faults-are n i q (omega (arith, sound .rise k pk, from, to)) (omega arith)) ∙ and-r _ _ s))))
-            (λ h. faults-e job t j (t j .primary) q h
-            (λ e. or-l _ _ (eq-eqb (getD (cs .node) (2 * j) 0) q (own ∙ e)))
-            (λ k pk to w s. or-r _ _ (any-i maxTasks _ (link job k .from) (omega (arith, sound .rise k pk, sound .into k pk, sound .tasks-most))
-            (and-i _ _
-            (subst (λ m. has (getD into m 0) (link job k .from) ≡ true) to
-            (weak-i k pk (subst (λ m. strong job (link job k) (t (link job k .from)) (t m .primary) ≡ false) (sym to) w)))
-            (faults-are n (link job k .from) q (omega (arith, sound .rise k pk, to)) (omega arith) ∙ s)))))
-            ∙ sym (ap (λ f. f q) (rows-faults job sound plan j low))
+      backups-are-judged : backupBreach (job .links) (links job) final leave ≡ byBackups job t
+      unfolding backupBreach byBackups firstLink
+      backups-are-judged = first-same (links job) _ _ (λ k p. rw (feeds-is k p)) ∙ backups-same job sound (rowOf final) t rows-are
 
-        faults-at : (j q : ℕ) → j < tasks job → has (getD sets (2 * j + 1) 0) q ≡ t j .faults q
-        faults-at j q p = faults-are (tasks job) j q p (omega arith)
+      -- a link that is sure keeps it; others come from the senders in the set
+      module _ (u : ℕ) (is : SureBut job (rowOf cs) (links job) u) where
+        others : (k : ℕ) → k < links job → has u (link job k .from) ≡ false → linkFeeds (job .links) final leave k ≡ true
+        unfolding waitsForBoth rowOf
+        others k p out =
+            feeds-is k p
+            ∙ both-keeps job (link job k) _ _ (split (sure job (rowOf cs) k) (λ e. e) (λ e. clash _ (is k p e) out))
 
-        rows-are : (j : ℕ) → j < tasks job → rowOf final j ≡ t j
-        unfolding rowOf
-        rows-are j p = same-row _ _ _ _ _ _ (copied .primary j p) (copied .backup j p) (fun-ext λ q. faults-at j q p)
+        all-sure : u ≡ 0 → byBackups job t ≡ none
+        unfolding backupBreach
+        all-sure empty =
+            sym backups-are-judged
+            ∙ first-none (links job) _ (λ k p. none-unless _ _ (others k p (rw (empty, has-none (link job k .from)))))
 
-        held : Held job (tasks job) final
-        unfolding domain
-        held =
-            record {
-              node = λ k p. entry-able k p .on;
-              lasts = λ k p. entry-able k p .lasts;
-              ends = λ k p. entry-able k p .ends;
-              primary-set = filled .primary;
-              own = λ i p.
-                  faults-at i _ p ∙ ap (λ f. f (getD (cs .node) (2 * i) 0)) (rows-faults job sound plan i p)
-                  ∙ faults-here job t i (t i .primary) _ (eq-eqb _ _ (sym (ap (λ (c : Copy). c .node) (copied .primary i p))));
-              within = λ i q p h. faults-low (tasks job) i q p (omega arith) (sym (faults-at i q p) ∙ h);
-            }
+      breach-is : faultBreach final (tasks job) ≡ byFaults job (rowOf final)
+      unfolding faultBreach lossBreach byFaults firstTask ruleF rowOf domain
+      breach-is = ap (λ o. lossBreach (cs .node) sets (tasks job) or-else o) (pairs-are job final (sound .nodes-most) held)
 
-        -- E at link k, by the table
-        feeds-is : (k : ℕ) → k < links job
-            → linkFeeds (job .links) final leave k ≡ ruleE job (link job k) (rowOf final (link job k .from)) (rowOf final (link job k .to))
-        unfolding linkFeeds rowOf
-        feeds-is k p =
-            let low = from-low job sound k p in
-            rw (left (2 * link job k .from) (omega arith), left (2 * link job k .from + 1) (omega arith))
-            (backup-fed job final (tasks job) held _ (rowOf final (link job k .to)) refl (link job k) _ low)
-
-        backups-are-judged : backupBreach (job .links) (links job) final leave ≡ byBackups job t
-        unfolding backupBreach byBackups firstLink
-        backups-are-judged = first-same (links job) _ _ (λ k p. rw (feeds-is k p)) ∙ backups-same job sound (rowOf final) t rows-are
-
-        -- a link that is sure keeps it; others come from the senders in the set
-        module _ (u : ℕ) (is : SureBut job (rowOf cs) (links job) u) where
-          others : (k : ℕ) → k < links job → has u (link job k .from) ≡ false → linkFeeds (job .links) final leave k ≡ true
-          unfolding waitsForBoth rowOf
-          others k p out =
-              feeds-is k p
-              ∙ both-keeps job (link job k) _ _ (split (sure job (rowOf cs) k) (λ e. e) (λ e. clash _ (is k p e) out))
-
-          all-sure : u ≡ 0 → byBackups job t ≡ none
-          unfolding backupBreach
-          all-sure empty =
-              sym backups-are-judged
-              ∙ first-none (links job) _ (λ k p. none-unless _ _ (others k p (rw (empty, has-none (link job k .from)))))
-
-        breach-is : faultBreach final (tasks job) ≡ byFaults job (rowOf final)
-        unfolding faultBreach lossBreach byFaults firstTask ruleF rowOf domain
-        breach-is = ap (λ o. lossBreach (cs .node) sets (tasks job) or-else o) (pairs-are job final (sound .nodes-most) held)
-
-        faults-are-judged : faultBreach final (tasks job) ≡ byFaults job t
-        faults-are-judged = breach-is ∙ faults-same job sound (rowOf final) t rows-are
+      faults-are-judged : faultBreach final (tasks job) ≡ byFaults job t
+      faults-are-judged = breach-is ∙ faults-same job sound (rowOf final) t rows-are
 
 -- the answer of each part where the parts before it found nothing
 module _ (job : Job) (plan : Plan) (sound : Sound job) (reads : PlanSound job plan)
@@ -243,6 +206,17 @@ module _ (job : Job) (plan : Plan) (sound : Sound job) (reads : PlanSound job pl
       let able = entry-able job plan sound reads cs (placed .tabled .copied) in
       record { few = sound .tasks-most; on = λ k p. omega (arith, able k p .on, sound .nodes-most) }
 
+  -- the sets before any task is gathered
+  own-sets : SetsTo job plan 0 (cs .set)
+  unfolding ownNode domain
+  own-sets =
+      let it = placed .tabled in
+      record {
+        size = it .whole .set;
+        primary = it .primary-set;
+        faults = λ i q p. ap (λ s. has s q) (it .own-set i p) ∙ has-one _ q ∙ sym (ap (λ f. f i q) (gathered-none job plan));
+      }
+
   -- the copies without their sets
   abbrev bare : Copies
   bare = table (cs .node) (cs .start) (cs .finish) []
@@ -253,22 +227,17 @@ module _ (job : Job) (plan : Plan) (sound : Sound job) (reads : PlanSound job pl
     unfolding timed
     walked = walk (timed job plan sound reads cs (placed .tabled .copied) leave (placed .leaving) [])
 
-    -- the table before the first fault set
-    pub fillable : Senders (cs .node) into (tasks job) × FaultSets (cs .node) into (tasks job) 0 (cs .set)
-    fillable =
-        let it = placed .tabled in (
-          senders job plan sound reads bare (it .copied) into (walked .weak),
-          record { within = omega arith; size = it .whole .set; primary = it .primary-set; backup = λ i q p. absurd (not-suc-le-zero p) },
-        )
-
     links-answer : w .answer ≡ answered (byLinks job (rows job plan))
     links-answer = walked .answer ∙ ap answered (links-are job plan sound reads bare (placed .tabled .copied))
 
     pub links-refused : v ≡ Done → (r : Refusal) → w .answer ≡ Refused r → w .answer ≡ judge job plan
     links-refused done r e = parts _ (stop _ _ _ r links-answer e ∙ after _ _ (done-none _ _ (placed .answer) done))
 
-    -- the table with them
-    module _ (sets : List ℕ) (filled : FaultSets (cs .node) into (tasks job) (tasks job) sets) where
+    -- the sets once all tasks are gathered, and the table with them
+    module _ (sets : List ℕ) (gathers : GathersAll into (tasks job) (cs .set) sets) where
+      pub filled : SetsTo job plan (tasks job) sets
+      filled = gathers job plan (receiving job plan sound reads bare (placed .tabled .copied) into (walked .weak)) own-sets
+
       abbrev full : Copies
       full = table (cs .node) (cs .start) (cs .finish) sets
 
@@ -276,7 +245,7 @@ module _ (job : Job) (plan : Plan) (sound : Sound job) (reads : PlanSound job pl
       pass-ready =
           record {
             timed = timed job plan sound reads cs (placed .tabled .copied) leave (placed .leaving) sets;
-            others = others job plan sound reads bare (placed .tabled .copied) into (walked .weak) sets filled leave (placed .leaving .is)
+            others = others job plan sound reads bare (placed .tabled .copied) sets filled leave (placed .leaving .is)
                 (w .unsure) (walked .unsure);
           }
 
@@ -288,7 +257,7 @@ module _ (job : Job) (plan : Plan) (sound : Sound job) (reads : PlanSound job pl
       backups-answer u e =
           e
           ∙ ap answered
-          (backups-are-judged job plan sound reads bare (placed .tabled .copied) into (walked .weak) sets filled leave (placed .leaving .is))
+          (backups-are-judged job plan sound reads bare (placed .tabled .copied) sets filled leave (placed .leaving .is))
 
       -- every link is sure, or the pass found nothing
       abbrev Fed : Type 0
@@ -297,7 +266,7 @@ module _ (job : Job) (plan : Plan) (sound : Sound job) (reads : PlanSound job pl
       backups-kept : Fed → byBackups job (rows job plan) ≡ none
       backups-kept =
           ⊎-elim
-          (all-sure job plan sound reads bare (placed .tabled .copied) into (walked .weak) sets filled leave (placed .leaving .is)
+          (all-sure job plan sound reads bare (placed .tabled .copied) sets filled leave (placed .leaving .is)
           (w .unsure) (walked .unsure))
           (λ x. done-none _ _ (backups-answer (x .0) (x .1)) (x .2))
 
@@ -313,5 +282,5 @@ module _ (job : Job) (plan : Plan) (sound : Sound job) (reads : PlanSound job pl
         faults-answered fed u e =
             parts u (before _ u (e
             ∙ ap answered
-            (faults-are-judged job plan sound reads bare (placed .tabled .copied) into (walked .weak) sets filled leave (placed .leaving .is))
+            (faults-are-judged job plan sound reads bare (placed .tabled .copied) sets filled leave (placed .leaving .is))
             ∙ after _ _ (backups-kept fed)))

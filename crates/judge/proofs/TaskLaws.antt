@@ -1,5 +1,5 @@
 -- Laws of the pass over the tasks: two entries more, and the rules of tasks at each.
-use Prim.Native.Nat.{ℕ, _+_, _*_, _≤_, _<_}
+use Prim.Native.Nat.{ℕ, _+_, _*_, _^_, _≤_, _<_}
 use mathlib.Core.Bool.{not}
 use mathlib.Core.List.{List}
 use mathlib.Core.Path.{_≡_, sym, _∙_, ap, ap₂, subst}
@@ -82,6 +82,7 @@ module _ (job : Job) (plan : Plan) where
               whole = whole;
               copied = record { primary = λ j p. absurd (not-suc-le-zero p); backup = λ j p. absurd (not-suc-le-zero p) };
               primary-set = λ j p. absurd (not-suc-le-zero p);
+              own-set = λ j p. absurd (not-suc-le-zero p);
             };
         leaving = leaving-start job cs leave zeros;
         a = note-start _;
@@ -91,9 +92,9 @@ module _ (job : Job) (plan : Plan) where
       }
 
   -- p and b as entries of task j
-  tabled-more : (j : ℕ) (cs ds es : Copies) (p b : Copy) → Stored cs (2 * j) p everyNode ds → Stored ds (2 * j + 1) b everyNode es → Whole es
-      → p ≡ rows job plan j .primary → b ≡ rows job plan j .backup → Tabled job plan j cs → Tabled job plan (j + 1) es
-  tabled-more j cs ds es p b first second whole ep eb h =
+  tabled-more : (j own : ℕ) (cs ds es : Copies) (p b : Copy) → Stored cs (2 * j) p everyNode ds → Stored ds (2 * j + 1) b own es → Whole es
+      → p ≡ rows job plan j .primary → b ≡ rows job plan j .backup → own ≡ 2 ^ p .node → Tabled job plan j cs → Tabled job plan (j + 1) es
+  tabled-more j own cs ds es p b first second whole ep eb eo h =
       record {
         whole = whole;
         copied =
@@ -108,6 +109,9 @@ module _ (job : Job) (plan : Plan) where
         primary-set = λ i q. below-suc i j (omega arith)
             (λ r. second .other-set (2 * i) (λ e. omega arith) ∙ first .other-set (2 * i) (λ e. omega arith) ∙ h .primary-set i r)
             (λ r. rw r (second .other-set (2 * j) (λ e. omega arith) ∙ first .here-set));
+        own-set = λ i q. below-suc i j (omega arith)
+            (λ r. second .other-set (2 * i + 1) (λ e. omega arith) ∙ first .other-set (2 * i + 1) (λ e. omega arith) ∙ h .own-set i r)
+            (λ r. rw r (second .here-set ∙ eo ∙ ap (λ (c : Copy). 2 ^ c .node) ep));
       }
 
   -- one task more, with its copies p and b
@@ -121,10 +125,11 @@ module _ (job : Job) (plan : Plan) where
       → w ≡ notedOf soon j (leb (ready job j) (p .start))
       → y ≡ notedOf early j (leb (p .finish + detect job (p .node)) (b .start))
       → z ≡ notedOf late j (leb (b .finish) (deadline job j))
-      → (ds es : Copies) → Stored cs (2 * j) p everyNode ds → Stored ds (2 * j + 1) b everyNode es → Whole es
+      → (own : ℕ) → own ≡ 2 ^ p .node
+      → (ds es : Copies) → Stored cs (2 * j) p everyNode ds → Stored ds (2 * j + 1) b own es → Whole es
       → Placing job plan (j + 1) es (set (set leave (2 * j) (leaveOf job p)) (2 * j + 1) (leaveOf job b)) x w y z
   unfolding copy domain ruleA ruleReady ruleB ruleC
-  placing-more fits j cs leave same soon early late h low p b ip ib x w y z ex ew ey ez ds es first second whole =
+  placing-more fits j cs leave same soon early late h low p b ip ib x w y z ex ew ey ez own eo ds es first second whole =
       let ep : p ≡ rows job plan j .primary = ip ∙ sym (row-primary job plan (tasks job) j low) in
       let eb : b ≡ rows job plan j .backup = ib ∙ sym (row-backup job plan (tasks job) j low) in
       let small : j < nowhere = omega arith in
@@ -132,7 +137,7 @@ module _ (job : Job) (plan : Plan) where
       let leaves = leaves-soon job plan fits j low p b ip ib in
       record {
         within = omega arith;
-        tabled = tabled-more j cs ds es p b first second whole ep eb (h .tabled);
+        tabled = tabled-more j own cs ds es p b first second whole ep eb eo (h .tabled);
         leaving =
             subst (λ n. Leaving job n es (set (set leave (2 * j) (leaveOf job p)) (2 * j + 1) (leaveOf job b))) next
             (leaving-more job (2 * j + 1) ds _

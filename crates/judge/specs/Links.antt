@@ -1,23 +1,22 @@
 -- What the pass over the links gives: the weak links, the answer of D, and what it leaves of E.
 use Prim.Native.Nat.{ℕ, _+_, _*_, _≤_, _<_}
-use mathlib.Core.Bool.{Bool, true, false, not}
+use mathlib.Core.Bool.{Bool, true, false}
 use mathlib.Core.List.{List}
 use mathlib.Core.Path.{_≡_}
-use lib.Dec.{eqb}
 use lib.ListN.{getD}
 use Rattle.reader.specs.declared.job.Job.{Job}
 use Rattle.reader.specs.declared.job.Link.{Link}
-use Rattle.reader.specs.Tests.{_and_}
 use Rattle.reader.specs.First.{any}
 use Rattle.reader.specs.Limits.{maxTasks, maxLinks}
 use Rattle.reader.specs.Entries.{nodes, tasks, links, link, noLink}
 use Rattle.reader.specs.Refusals.{answered}
-use Rattle.rules.specs.Rules.{Row, strong}
+use Rattle.rules.specs.Rules.{Row}
 use Rattle.rules.specs.Waits.{waitsForBoth}
 use Rattle.copies.specs.declared.table.Copies.{Copies}
 use Rattle.copies.specs.Sets.{has}
 use Rattle.copies.specs.Arrival.{resultOf, resultAt, SumFits}
 use Rattle.copies.specs.Table.{entry, rowOf}
+use Rattle.copies.specs.Gathered.{weakLink}
 use Rattle.judge.specs.declared.links.Walked.{Walked}
 use Rattle.judge.specs.Parts.{byLinks}
 
@@ -47,12 +46,6 @@ pub record Timed (list : List Link) (n : ℕ) (cs : Copies) (leave : List ℕ) :
       resultAt (cs .node) (cs .finish) leave (l .delay) (2 * l .from) ≡ resultOf job l (entry cs (2 * l .from))
   pub backup : (k : ℕ) → k < n → let l = getD list k noLink in
       resultAt (cs .node) (cs .finish) leave (l .delay) (2 * l .from + 1) ≡ resultOf job l (entry cs (2 * l .from + 1))
-
--- link k is a weak link from i to j
-unfoldable pub weakLink : Job → (ℕ → Row) → ℕ → ℕ → ℕ → Bool
-weakLink job t i j k =
-    let l = link job k in
-    eqb (l .from) i and eqb (l .to) j and not (strong job l (t (l .from)) (t (l .to) .primary))
 
 -- the members of set j are the tasks from which one of the first k links leads to j and is weak
 abbrev pub WeakTo : Job → (ℕ → Row) → ℕ → List ℕ → Type 0

@@ -1,5 +1,5 @@
 -- What the pass over the tasks gives: the plan's copies, and the answer of A, the ready time, B and C.
-use Prim.Native.Nat.{ℕ, _+_, _*_, _≤_, _<_}
+use Prim.Native.Nat.{ℕ, _+_, _*_, _^_, _≤_, _<_}
 use mathlib.Core.List.{List}
 use mathlib.Core.Path.{_≡_}
 use lib.ListN.{getD}
@@ -54,11 +54,12 @@ pub record Copied (job : Job) (plan : Plan) (n : ℕ) (at : ℕ → Copy) : Type
   pub primary : (j : ℕ) → j < n → at (2 * j) ≡ rows job plan j .primary
   pub backup : (j : ℕ) → j < n → at (2 * j + 1) ≡ rows job plan j .backup
 
--- the table has the copies of the first n tasks, and every node as the set of each primary
+-- the table has the copies of the first n tasks, every node as the set of each primary, and as each fault set its own primary's node so far
 pub record Tabled (job : Job) (plan : Plan) (n : ℕ) (cs : Copies) : Type 0 where
   pub whole : Whole cs
   pub copied : Copied job plan n (entry cs)
   pub primary-set : (j : ℕ) → j < n → setAt cs (2 * j) ≡ everyNode
+  pub own-set : (j : ℕ) → j < n → setAt cs (2 * j + 1) ≡ 2 ^ rows job plan j .primary .node
 
 -- the table of all tasks, when the result of each copy leaves, and the answer of A, the ready time, B and C
 pub record TasksJudged (job : Job) (plan : Plan) (cs : Copies) (leave : List ℕ) (r : Answer) : Type 0 where

@@ -1,46 +1,27 @@
 // Fault sets, task by task in the order of the receiving task, and rule F.
-use copies::sets::bit_of_node;
-use copies::sets::bit_of_task;
+use copies::gather::gather_task;
 use copies::sets::holds_node;
 use copies::table::Copies;
 use reader::job::Job;
 use reader::refusal::Answer;
 use reader::refusal::Refusal;
 ghost use mathlib.Core.Path.{_≡_};
-ghost use Prim.Native.Nat.{ℕ, _<_};
-ghost use Rattle.copies.specs.Sets.{has};
+ghost use Prim.Native.Nat.{_≤_};
+ghost use Rattle.reader.specs.Limits.{maxTasks};
 ghost use Rattle.reader.specs.Refusals.{answered};
-ghost use Rattle.judge.specs.Faults.{Low, gathered, FaultSets, Senders, lossBreach};
+ghost use Rattle.judge.specs.Faults.{Low, GathersAll, lossBreach};
 
-// The fault set of a task on node `own`, from those of the tasks from which weak links lead to it.
-fn gather(own: u32, weak: u64, sets: &[u32; Copies::COUNT]) -> u32
-    requires { ⌜ own < 32 ⌝ }
-    ensures { λ r. ⌜ ((q : ℕ) → has r q ≡ gathered own weak (now (sets .entry)) q) ⌝ }
-{
-    let mut set = bit_of_node(own);
-    let mut left = weak;
-    while left != 0 {
-        let i = u64::trailing_zeros(left) as usize;
-        set = set | sets[2 * i + 1];
-        left = left - bit_of_task(i);
-    }
-    set
-}
-
-// The backups' sets of the first n tasks; the primaries' stay.
-pub fn fault_sets<'c, 'w>(
-    node: &'c [u32; Copies::COUNT],
-    into: &'w [u64; Job::MAX_TASKS],
-    n: usize,
-    sets: &mut [u32; Copies::COUNT],
-)
-    requires { ⌜ Senders (now node) (now into) n × FaultSets (now node) (now into) n 0 (now sets) ⌝ }
-    ensures { λ _. ⌜ FaultSets (now (node .entry)) (now (into .entry)) n n (now (sets .exit)) ⌝ }
+// The fault sets of the first n tasks, from the state in which each is its own primary's node: `into` has for each task those from which weak
+// links arrive at it. Once a task is gathered its set stays.
+pub fn fault_sets(into: &[u64; Job::MAX_TASKS], n: usize, sets: &mut [u32; Copies::COUNT])
+    requires { ⌜ n ≤ maxTasks ⌝ }
+    ensures { λ _. ⌜ GathersAll (now (into .entry)) n (now (sets .entry)) (now (sets .exit)) ⌝ }
 {
     let mut j: usize = 0;
     while j < n {
-        let k = 2 * j;
-        sets[k + 1] = gather(node[k], into[j], sets);
+        let k = 2 * j + 1;
+        let own = sets[k];
+        sets[k] = gather_task(sets, own, into[j]);
         j += 1;
     }
 }

@@ -4,6 +4,7 @@ pub mod faults;
 pub mod links;
 pub mod note;
 pub mod overlaps;
+pub mod sets;
 pub mod tasks;
 
 use crate::backups::backups_fed;
@@ -77,7 +78,7 @@ pub fn judge_plan(job: Job, plan: Plan) -> Answer
     let Answer::Done = by_links else {
         return by_links;
     };
-    fault_sets(&node, &into, n, &mut sets);
+    fault_sets(&into, n, &mut sets);
     let unsure = walked.unsure;
     if unsure != 0 {
         let by_backups = backups_fed(links, m, unsure, &node, &start, &finish, &leave, &sets);

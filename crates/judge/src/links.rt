@@ -3,6 +3,7 @@ use crate::note::NONE;
 use crate::note::noted;
 use copies::arrival::in_time;
 use copies::arrival::result_at;
+use copies::sets::late_bit;
 use copies::table::Copies;
 use copies::table::copy_at;
 use reader::job::Job;
@@ -10,27 +11,12 @@ use reader::job::Link;
 use reader::refusal::Answer;
 use reader::refusal::Refusal;
 ghost use mathlib.Core.Path.{_≡_};
-ghost use Prim.Native.Nat.{_<_, _^_};
-ghost use mathlib.Core.Bool.{cond};
+ghost use Prim.Native.Nat.{_<_};
 ghost use mathlib.Core.List.{[]};
 ghost use lib.ListN.{replicate};
 ghost use Rattle.reader.specs.Limits.{maxTasks};
 ghost use Rattle.copies.specs.Table.{table};
 ghost use Rattle.judge.specs.Links.{linked, Timed, LinksJudged};
-
-fn one_unless(kept: bool) -> u64
-    ensures { λ r. ⌜ r ≡ cond kept 0 1 ⌝ }
-{
-    if kept { 0 } else { 1 }
-}
-
-// The set of task i where its result is late, else none.
-fn late_bit(kept: bool, i: usize) -> u64
-    requires { ⌜ i < 64 ⌝ }
-    ensures { λ r. ⌜ r ≡ cond kept 0 (2 ^ i) ⌝ }
-{
-    one_unless(kept) << i
-}
 
 // The number of a task as an index: in range for what it indexes.
 pub fn index(task: u32) -> usize

@@ -2,6 +2,7 @@
 use crate::note::NONE;
 use crate::note::noted;
 use copies::sets::ALL;
+use copies::sets::bit_of_node;
 use copies::table::Copies;
 use copies::table::put;
 use reader::job::Job;
@@ -54,7 +55,7 @@ fn task_answer(same: usize, soon: usize, early: usize, late: usize) -> Answer
     Answer::Done
 }
 
-// The caller's arrays are filled where they lie: as a result they would be copied. Fault sets come later.
+// The caller's arrays are filled where they lie: as a result they would be copied. A fault set is its own primary's node before its task is gathered.
 pub fn place_copies(
     tasks: [Task; Job::MAX_TASKS],
     nodes: [Node; Job::MAX_NODES],
@@ -92,7 +93,7 @@ pub fn place_copies(
         leave[k] = p.finish + own.send;
         leave[k + 1] = b.finish + other.send;
         put(node, start, finish, sets, k, p, ALL);
-        put(node, start, finish, sets, k + 1, b, ALL);
+        put(node, start, finish, sets, k + 1, b, bit_of_node(p.node));
         j += 1;
     }
     task_answer(same, soon, early, late)

@@ -1,33 +1,37 @@
--- The fault set as bits, link by link along the chain of a task's links.
-use Prim.Native.Nat.{ℕ, _^_}
-use mathlib.Core.Bool.{Bool, true, false, cond}
+-- The fault set as bits: the weak links along the chain of a task's links, and what is gathered by them.
+use Prim.Native.Nat.{ℕ, _+_, _*_, _^_}
+use mathlib.Core.Bool.{Bool, true, false, not, cond}
 use mathlib.Core.List.{List}
-use mathlib.Core.Path.{_≡_, refl, sym, _∙_, ap}
+use mathlib.Core.Path.{_≡_, refl, sym, _∙_, ap, ap₂}
 use lib.Bits.{bitOr}
 use lib.Dec.{eqb}
+use lib.ListN.{getD}
 use Rattle.reader.specs.Tests.{_and_, _or_}
-use Rattle.reader.proofs.TestLaws.{split, or-none, or-join}
+use Rattle.reader.specs.First.{any}
+use Rattle.reader.proofs.TestLaws.{and-yes, and-no, or-none, or-join}
 use Rattle.reader.proofs.FirstLaws.{any-start}
 use Rattle.rules.specs.declared.Copy.{Copy}
 use Rattle.copies.specs.Sets.{has}
 use Rattle.copies.specs.Arrival.{comes}
 use Rattle.copies.specs.Chain.{Chain}
+use Rattle.copies.specs.Gathered.{joined}
 use Rattle.copies.proofs.SetLaws.{has-none, has-one, has-union}
+use Rattle.copies.proofs.GatherLaws.{through-members}
 use Rattle.planner.specs.declared.senders.Sender.{Sender}
-use Rattle.planner.specs.Senders.{Results, Sending}
-use Rattle.planner.specs.Faults.{carriedOf, carriesFrom, carriedTo, Faulted}
+use Rattle.planner.specs.Senders.{Results, senderAt, Sending}
+use Rattle.planner.specs.Faults.{Faulted}
 use Rattle.planner.proofs.SenderLaws.{Walk, walk-start, Next}
 
--- what one link carries
-module _ (x : Sender) (p : Copy) where
-  pub carried-is : (strong : Bool) (r : ℕ) → strong ≡ comes (x .backup) p → r ≡ cond strong 0 (x .set) → r ≡ carriedOf x p
-  unfolding carriedOf
-  carried-is strong r e h = h ∙ rw e
+-- the link comes from task i, and is weak
+abbrev weakFrom : Copy → ℕ → Sender → Bool
+weakFrom p i x = eqb (x .task) i and not (comes (x .backup) p)
 
-  -- q is carried exactly if the link is weak and q is in the sender's set
-  has-carried : (q : ℕ) → has (carriedOf x p) q ≡ carriesFrom p q x
-  unfolding carriedOf _and_
-  has-carried q = split (comes (x .backup) p) (λ e. rw e (has-none q)) (λ e. rw e)
+-- the bit that it adds
+weak-bit : (p : Copy) (i : ℕ) (x : Sender) (strong : Bool) (bit : ℕ) → strong ≡ comes (x .backup) p → bit ≡ cond strong 0 (2 ^ x .task)
+    → has bit i ≡ weakFrom p i x
+weak-bit p i x true bit e b = ap (λ s. has s i) b ∙ has-none i ∙ sym (ap (λ s. eqb (x .task) i and not s) (sym e) ∙ and-no (eqb (x .task) i))
+weak-bit p i x false bit e b =
+    ap (λ s. has s i) b ∙ has-one (x .task) i ∙ sym (ap (λ s. eqb (x .task) i and not s) (sym e) ∙ and-yes (eqb (x .task) i))
 
 or-swap : (a b : Bool) → (a or b) ≡ (b or a)
 unfolding _or_
@@ -38,36 +42,41 @@ or-swap false false = refl
 
 -- along the chains that begin at `last`
 module _ (next from delay : List ℕ) (rs : Results) (last : ℕ) (p : Copy) where
+  -- a weak link from i is among the first n that lead to j
   abbrev over : (ℕ → ℕ) → ℕ → ℕ → ℕ → Bool
-  over = carriedTo next from delay rs last p
+  over key j n i = any n (λ m. eqb (key m) j and weakFrom p i (senderAt next from delay rs m))
 
-  -- the set has p's node and what the links passed carry, down to `left`
-  pub record Faulting (left set : ℕ) : Type 0 where
+  -- the members are the senders of the weak links passed, down to `left`
+  pub record Faulting (left weak : ℕ) : Type 0 where
     pub walk : Walk next from delay rs last left
-    pub is : (key : ℕ → ℕ) (j : ℕ) → Chain key next j last → (q : ℕ)
-        → (has set q or over key j left q) ≡ (eqb (p .node) q or over key j last q)
+    pub is : (key : ℕ → ℕ) (j : ℕ) → Chain key next j last → (i : ℕ) → (has weak i or over key j left i) ≡ over key j last i
 
-  pub faulting-start : Sending next from delay rs last → (set : ℕ) → set ≡ 2 ^ p .node → Faulting last set
-  faulting-start pre set e =
-      record {
-        walk = walk-start next from delay rs last pre;
-        is = λ key j c q. ap (λ b. b or over key j last q) (ap (λ s. has s q) e ∙ has-one (p .node) q);
-      }
+  pub faulting-start : Sending next from delay rs last → Faulting last 0
+  unfolding _or_
+  faulting-start pre = record { walk = walk-start next from delay rs last pre; is = λ key j c i. rw (has-none i) }
 
   -- one link more
-  pub faulting-more : (left set new : ℕ) → Faulting left set → (x : Sender) → Next next from delay rs last left x → new ≡ carriedOf x p
-      → Faulting (x .next) (bitOr set new)
-  faulting-more left set new h x n e =
+  pub faulting-more : (left weak bit : ℕ) (strong : Bool) → Faulting left weak → (x : Sender) → Next next from delay rs last left x
+      → strong ≡ comes (x .backup) p → bit ≡ cond strong 0 (2 ^ x .task) → Faulting (x .next) (bitOr weak bit)
+  faulting-more left weak bit strong h x n e b =
       record {
         walk = n .walk;
-        is = λ key j c q.
-            let rest = over key j (x .next) q in
-            ap (λ b. b or rest) (has-union set new q) ∙ or-join _ _ _
-            ∙ ap (λ b. has set q or b) (or-swap (has new q) rest ∙ ap (λ b. rest or b) (ap (λ s. has s q) e ∙ has-carried x p q)
-            ∙ sym (n .some key j c (carriesFrom p q)))
-            ∙ h .is key j c q;
+        is = λ key j c i.
+            let rest = over key j (x .next) i in
+            ap (λ y. y or rest) (has-union weak bit i) ∙ or-join _ _ _
+            ∙ ap (λ y. has weak i or y) (or-swap (has bit i) rest ∙ ap (λ y. rest or y) (weak-bit p i x strong bit e b)
+            ∙ sym (n .some key j c (weakFrom p i)))
+            ∙ h .is key j c i;
       }
 
-  pub faulting-done : (left set : ℕ) → left ≡ 0 → Faulting left set → Faulted next from delay rs last p set
-  faulting-done left set e h key j c q =
-      sym (ap (λ b. has set q or b) (ap (λ n. over key j n q) e ∙ any-start _) ∙ or-none _) ∙ h .is key j c q
+  -- what is gathered by them
+  pub faulting-done : (left weak : ℕ) → left ≡ 0 → Faulting left weak
+      → (own set : ℕ) → own ≡ 2 ^ p .node → ((q : ℕ) → has set q ≡ joined own weak (rs .set) q) → Faulted next from delay rs last p set
+  unfolding joined
+  faulting-done left weak e h own set is-own is-set key j c q =
+      let members : (i : ℕ) → has weak i ≡ over key j last i =
+      λ i. sym (ap (λ y. has weak i or y) (ap (λ n. over key j n i) e ∙ any-start _) ∙ or-none _) ∙ h .is key j c i in
+      is-set q
+      ∙ ap₂ _or_ (ap (λ x. has x q) is-own ∙ has-one (p .node) q)
+      (through-members last weak (λ m. getD from m 0) (λ m. eqb (key m) j) (λ m. not (comes (senderAt next from delay rs m .backup) p)) members
+      (λ m b. h .walk .sending m b .few) (λ i. has (getD (rs .set) (2 * i + 1) 0) q))

@@ -11,3 +11,4 @@ pub mod StoreLaws
 pub mod WantLaws
 pub mod TaskLaws
 pub mod PlannedLaws
+pub mod SetsBetween

@@ -50,7 +50,13 @@ abbrev pub sends : Job → List ℕ → Copies → ℕ → Sender
 sends job next cs m =
     let l = link job m in
     let k = 2 * l .from in
-    record { primary = resultOf job l (entry cs k); backup = resultOf job l (entry cs (k + 1)); set = setAt cs (k + 1); next = getD next m 0 }
+    record {
+      task = l .from;
+      primary = resultOf job l (entry cs k);
+      backup = resultOf job l (entry cs (k + 1));
+      set = setAt cs (k + 1);
+      next = getD next m 0;
+    }
 
 -- the columns of a table that arrivals go by
 abbrev pub outOf : Copies → List ℕ → Results
@@ -92,7 +98,7 @@ module _ (job : Job) (next from delay : List ℕ) (j into : ℕ) (i : Into job n
     sends-is m b e =
         let p = fed m b e in
         rw (i .froms m b, i .delays m b)
-        (ap₂ (λ p q. record { primary = p; backup = q; set = setAt cs (2 * link job m .from + 1); next = getD next m 0 })
+        (ap₂ (λ p q. record { task = link job m .from; primary = p; backup = q; set = setAt cs (2 * link job m .from + 1); next = getD next m 0 })
         (result-is job _ cs leave leaving (link job m) _ (omega arith)) (result-is job _ cs leave leaving (link job m) _ (omega arith)))
 
     -- the fault set by the chain is that of the rules

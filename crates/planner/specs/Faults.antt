@@ -1,6 +1,6 @@
 -- The fault set of a task as bits.
 use Prim.Native.Nat.{ℕ}
-use mathlib.Core.Bool.{Bool, not, cond}
+use mathlib.Core.Bool.{Bool, not}
 use mathlib.Core.List.{List}
 use mathlib.Core.Path.{_≡_}
 use lib.Dec.{eqb}
@@ -12,10 +12,6 @@ use Rattle.copies.specs.Arrival.{comes}
 use Rattle.copies.specs.Chain.{Chain}
 use Rattle.planner.specs.declared.senders.Sender.{Sender}
 use Rattle.planner.specs.Senders.{Results, senderAt}
-
--- nothing where the link is strong, else the sender's set
-unfoldable pub carriedOf : Sender → Copy → ℕ
-carriedOf x p = cond (comes (x .backup) p) 0 (x .set)
 
 -- the link is weak, and q is in its sender's fault set
 abbrev pub carriesFrom : Copy → ℕ → Sender → Bool

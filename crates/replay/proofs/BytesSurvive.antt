@@ -43,8 +43,8 @@ module _ (job : Job) (plan : Plan) (loss : Loss) (both : Sound job × PlanSound 
       → numberAt (replayBytes job plan loss) at ≡ getD (numbers (replayed job plan loss j)) k 0
   unfolding replayBytes
   number-there j below k at p e small =
-      ap (λ n. numberAt (replayBytes job plan loss) n) e
-      ∙ row-number (λ j. numbers (replayed job plan loss j)) (λ j. refl) (tasks job) j k below p small
+      ap (λ n. numberAt (replayBytes job plan loss) n) (e ∙ omega arith)
+      ∙ row-number 3 (λ j. numbers (replayed job plan loss j)) (λ j. refl) (tasks job) j k below p small
 
   pub bytes-tell : BytesTell job (rows job plan) (replay job plan loss) (replayBytes job plan loss)
   unfolding outcome
@@ -57,7 +57,7 @@ module _ (job : Job) (plan : Plan) (loss : Loss) (both : Sound job × PlanSound 
   }
 
 -- the numbers at a buffer's front are those of what stands there
-number-front : (s rest : List ℕ) (at : ℕ) → at + 4 ≤ length s → numberAt (s ++ rest) at ≡ numberAt s at
+pub number-front : (s rest : List ℕ) (at : ℕ) → at + 4 ≤ length s → numberAt (s ++ rest) at ≡ numberAt s at
 unfolding numberAt
 number-front s rest at h =
     let same : (i : ℕ) → i < at + 4 → getD (s ++ rest) i 0 ≡ getD s i 0 = λ i p. List·getD-append s rest 0 i (omega arith) in

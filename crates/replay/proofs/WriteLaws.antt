@@ -42,7 +42,7 @@ numbersAt o j = numbers (getD (o .of) j noOutcome)
 
 length-outcomes : (o : Outcomes) (n : ℕ) → length (outcomeBytes o n) ≡ 12 * n
 unfolding outcomeBytes
-length-outcomes o n = length-rows (numbersAt o) (λ i. refl) n
+length-outcomes o n = length-rows 3 (numbersAt o) (λ i. refl) n ∙ omega arith
 
 outcomes-more : (o : Outcomes) (j : ℕ) → outcomeBytes o j ++ pack (numbersAt o j) ≡ outcomeBytes o (j + 1)
 unfolding outcomeBytes
@@ -73,7 +73,7 @@ module _ (o : Outcomes) (n : ℕ) (out₀ : List ℕ) where
 
 pub length-replay : (job : Job) (plan : Plan) (loss : Loss) → length (replayBytes job plan loss) ≡ 12 * tasks job
 unfolding replayBytes
-length-replay job plan loss = length-rows (λ j. numbers (replayed job plan loss j)) (λ i. refl) (tasks job)
+length-replay job plan loss = length-rows 3 (λ j. numbers (replayed job plan loss j)) (λ i. refl) (tasks job) ∙ omega arith
 
 -- `replay_into`
 pub replay-written : (job : Job) (plan : Plan) (loss : Loss) (o : Outcomes) (d out : List ℕ) → tasks job ≤ maxTasks → o ≡ outcomes job plan loss

@@ -47,6 +47,10 @@ module _ (job : Job) (sound : Sound job) where
   pub from-below : (j k : ℕ) → k < links job → eqb (link job k .to) j ≡ true → link job k .from < j
   from-below j k p e = omega (arith, sound .rise k p, eqb-true (link job k .to) j e)
 
+  -- and every link from a task of the job
+  pub from-low : (k : ℕ) → k < links job → link job k .from < tasks job
+  from-low k p = omega (arith, sound .rise k p, sound .into k p)
+
   pub faultSet-own : (j : ℕ) (p : Copy) (f g : ℕ → Row) → ((i : ℕ) → i < j → f i ≡ g i) → faultSet job f j p ≡ faultSet job g j p
   unfolding faultSet carries _and_
   faultSet-own j p f g h =

@@ -4,6 +4,7 @@ pub mod CopyLaws
 pub mod LinkLaws
 pub mod FaultSetLaws
 pub mod FaultPaths
+pub mod GatheringLaws
 pub mod JudgeLaws
 pub mod LossLaws
 pub mod FirmSurvives
@@ -13,10 +14,12 @@ pub mod PlaceTaskLaws
 pub mod AnywhereLaws
 pub mod KeepsLaws
 pub mod PlannedPasses
+pub mod PlannerGathers
 pub mod Ready
 pub mod PlannerRefusals
 pub mod Samples
 pub mod WrongTurns
+pub mod WrongOrders
 pub mod Waits
 pub mod Instance
 pub mod PairOrder

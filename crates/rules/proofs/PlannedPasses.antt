@@ -118,7 +118,7 @@ module _ (job : Job) (sound : Sound job) where
       (omega (arith, sound .tasks-most, length-replicate maxTasks noPlace))
 
   -- the rows of the plan that has them
-  planned-rows : (t : ℕ → Row) (plan : Plan) → Table job (tasks job) t → planOf job t ≡ plan → rows job plan ≡ t
+  pub planned-rows : (t : ℕ → Row) (plan : Plan) → Table job (tasks job) t → planOf job t ≡ plan → rows job plan ≡ t
   planned-rows t plan table e = table .planned plan (λ j p. ap (λ plan. place plan j) (sym e) ∙ place-plan-of t j p)
 
   -- a table that keeps the rules beside itself keeps them all
@@ -155,7 +155,7 @@ module _ (job : Job) (sound : Sound job) where
   -- whatever the primaries may be
   module _ (may : ℕ → Copy → Bool) (plan : Plan) (h : plannerWith may job ≡ placed plan) where
     -- the plan is that of a table that was placed
-    from-table : {C : Type 0}
+    pub from-table : {C : Type 0}
         → ((t : ℕ → Row) → placeTasks job may (tasks job) ≡ placed t → Table job (tasks job) t → planOf job t ≡ plan → C) → C
     unfolding plannerWith
     from-table go = bind-placed _ _ plan h λ t ht e. go t ht (table-placed may (tasks job) t ht) (cc)

@@ -11,10 +11,12 @@ pub mod Asking
 pub mod Held
 pub mod Survival
 pub mod Paths
+pub mod Gathering
 pub mod Breach
 pub mod Choice
 pub mod Firm
 pub mod Samples
 pub mod WrongTurns
+pub mod WrongOrders
 pub mod Waits
 pub mod AskSamples

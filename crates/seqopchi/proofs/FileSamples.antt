@@ -1,17 +1,21 @@
--- The starred samples of document 01, and those of requests (ii) and (iv), at the level of bytes, by computation.
+-- The starred samples of document 01, and those of requests (ii), (iv) and (v), at the level of bytes, by computation.
 use mathlib.Core.Path.{_≡_, refl}
-use mathlib.Core.List.{[]}
+use mathlib.Core.List.{[], _∷_, _++_}
+use lib.ListN.{replicate}
 use Rattle.reader.specs.Refusals.{told, packed, result}
 use Rattle.reader.specs.Samples.{J, plan1}
-use Rattle.writer.specs.Write.{jobBytes, planBytes}
+use Rattle.writer.specs.Write.{pack, jobBytes, planBytes}
 use Rattle.writer.proofs.Samples.{filed}
 use Rattle.rules.specs.declared.Loss.the-variants.{Lost}
 use Rattle.rules.specs.Samples.{table, readyTable, sendTable}
+use Rattle.rules.specs.Gathering.{setNumber, faultNumber}
+use Rattle.rules.specs.WrongTurns.{chain, chainPlan}
 use Rattle.rules.proofs.Samples.{computed}
 use Rattle.replay.specs.Outcomes.{replayBytes}
 use Rattle.replay.specs.States.{outcome}
 use Rattle.seqopchi.specs.Files.{filesFault, judgeFiles, planFileFault, planFile, lossFault, replayFault, replayFiles}
-use Rattle.seqopchi.specs.Samples.{calls, dues}
+use Rattle.seqopchi.specs.Files.{faultBytes, setsFault, setsFiles}
+use Rattle.seqopchi.specs.Samples.{gave, written, calls, dues}
 
 -- all that the calls compute with
 unfoldable pub calculated : Unit {0}
@@ -35,3 +39,10 @@ send-file-samples = refl
 pub node-before-room : result (replayFiles (jobBytes J) (planBytes plan1) (Lost 3 0) [] .answer) ≡ packed (told 18 3 0)
 unfolding calculated
 node-before-room = refl
+
+-- the sets of a refused plan, a chain of weak links from node 0 to node 2 and on; and 17 with one byte too few
+pub sets-sample :
+    (written (setsFiles (jobBytes chain) (planBytes chainPlan) (replicate 13 165)) ≡ gave 0 (pack (1 ∷ 5 ∷ 5 ∷ []) ++ (165 ∷ [])))
+    × (written (setsFiles (jobBytes chain) (planBytes chainPlan) (replicate 11 165)) ≡ gave (packed (told 17 12 0)) (replicate 11 165))
+unfolding calculated setNumber faultNumber faultBytes setsFault setsFiles
+sets-sample = (refl, refl)

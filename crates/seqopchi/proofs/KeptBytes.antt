@@ -17,8 +17,9 @@ use Rattle.rules.specs.declared.Loss.{Loss}
 use Rattle.rules.specs.Planner.{planner}
 use Rattle.replay.specs.Outcomes.{replayBytes}
 use Rattle.replay.proofs.WriteLaws.{length-replay}
-use Rattle.seqopchi.specs.Files.{planIn, planOr, planFileFault, planFile, replayFault, replayFiles}
+use Rattle.seqopchi.specs.Files.{planIn, planOr, planFileFault, planFile, replayFault, replayFiles, faultBytes, setsFault, setsFiles}
 use Rattle.seqopchi.proofs.PlannedFiles.{planned-length}
+use Rattle.seqopchi.proofs.SetsLaws.{length-faults}
 
 -- of anything that is written
 pub refused-kept : (fault : Option Refusal) (s out : List ℕ) → (result (writes fault s out .answer) ≡ 0 → ⊥) → writes fault s out .buffer ≡ out
@@ -55,3 +56,16 @@ module _ (job plan : List ℕ) (loss : Loss) (out : List ℕ) where
       result (replayFiles job plan loss out .answer) ≡ 0 → drop need (replayFiles job plan loss out .buffer) ≡ drop need out
   unfolding replayFiles
   replay-keeps-beyond h = done-beyond (replayFault job plan loss out) run out _ (length-replay (jobAt job) (planIn job plan) loss) h
+
+module _ (job plan out : List ℕ) where
+  abbrev sets : List ℕ
+  sets = faultBytes (jobAt job) (planIn job plan)
+
+  pub sets-refused-keeps : (result (setsFiles job plan out .answer) ≡ 0 → ⊥) → setsFiles job plan out .buffer ≡ out
+  unfolding setsFiles
+  sets-refused-keeps = refused-kept (setsFault job plan out) sets out
+
+  pub sets-keeps-beyond : let need = 4 * tasks (jobAt job) in
+      result (setsFiles job plan out .answer) ≡ 0 → drop need (setsFiles job plan out .buffer) ≡ drop need out
+  unfolding setsFiles
+  sets-keeps-beyond h = done-beyond (setsFault job plan out) sets out _ (length-faults (jobAt job) (planIn job plan)) h

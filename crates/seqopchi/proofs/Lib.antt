@@ -2,6 +2,8 @@ pub mod PlannedFiles
 pub mod PlanLaws
 pub mod PassedFiles
 pub mod ReadLaws
+pub mod SetsLaws
+pub mod ToldSets
 pub mod KeptBytes
 pub mod FileSamples
 pub mod Unpacked

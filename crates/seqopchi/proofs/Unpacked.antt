@@ -1,4 +1,4 @@
--- Number and both places of every refusal of judge, planner and replay can be taken back out of the 8-byte result.
+-- Number and both places of every refusal of the calls can be taken back out of the 8-byte result.
 use Prim.Native.Nat.{ℕ, _<_}
 use native.Mathlib.Omega.{arith}
 use mathlib.Core.Path.{_≡_, subst}
@@ -9,7 +9,7 @@ use Rattle.reader.specs.declared.job.Job.{Job}
 use Rattle.reader.specs.declared.refusal.Refusal.{Refusal}
 use Rattle.reader.specs.declared.refusal.Refusal.the-variants.{SameNode, TooSoon, Early, Late, PrimaryUnfed, BackupUnfed, CommonLoss, Overlap}
 use Rattle.reader.specs.declared.refusal.Refusal.the-variants.{NoPrimary, NoBackup, NoSuchNode}
-use Rattle.reader.specs.Entries.{tasks, links, link}
+use Rattle.reader.specs.Entries.{tasks}
 use Rattle.reader.specs.Sound.{Sound}
 use Rattle.reader.specs.Refusals.{tell, answered, result, Fits, FaultFits}
 use Rattle.reader.specs.JobFile.{jobAt}
@@ -24,9 +24,11 @@ use Rattle.rules.specs.Rules.{Row}
 use Rattle.rules.specs.Judge.{firstTask, firstLink, firstPair, breach}
 use Rattle.rules.specs.Attempts.{Attempt, refused, placed}
 use Rattle.rules.specs.Planner.{planner}
+use Rattle.rules.proofs.FaultSetLaws.{from-low}
 use Rattle.rules.proofs.PlaceTaskLaws.{place-task-refused}
 use Rattle.rules.proofs.PlannerRefusals.{planner-refused}
 use Rattle.seqopchi.specs.Files.{filesFault, judgeFiles, refusalOf, planFileFault, planFile, lossFault, replayFault, replayFiles}
+use Rattle.seqopchi.specs.Files.{setsFault, setsFiles}
 use Rattle.seqopchi.specs.Unpacks.{Unpacks, WordLoss}
 use Rattle.seqopchi.proofs.ReadLaws.{files-sound}
 
@@ -49,13 +51,12 @@ module _ (job : Job) (sound : Sound job) where
   breach-fits : (t : ℕ → Row) → FaultFits (breach job t)
   unfolding breach firstTask firstLink firstPair
   breach-fits t =
-      let from-below : (k : ℕ) → k < links job → link job k .from < tasks job = λ k p. omega (arith, sound .rise k p, sound .into k p) in
       fits-or-else _ _ (fits-first _ _ (λ j p. fits-unless _ _ (named (SameNode j) p p))) (λ _.
       fits-or-else _ _ (fits-first _ _ (λ j p. fits-unless _ _ (named (TooSoon j) p p))) (λ _.
       fits-or-else _ _ (fits-first _ _ (λ j p. fits-unless _ _ (named (Early j) p p))) (λ _.
       fits-or-else _ _ (fits-first _ _ (λ j p. fits-unless _ _ (named (Late j) p p))) (λ _.
-      fits-or-else _ _ (fits-first _ _ (λ k p. fits-unless _ _ (named (PrimaryUnfed _ _) (from-below k p) (sound .into k p)))) (λ _.
-      fits-or-else _ _ (fits-first _ _ (λ k p. fits-unless _ _ (named (BackupUnfed _ _) (from-below k p) (sound .into k p)))) (λ _.
+      fits-or-else _ _ (fits-first _ _ (λ k p. fits-unless _ _ (named (PrimaryUnfed _ _) (from-low job sound k p) (sound .into k p)))) (λ _.
+      fits-or-else _ _ (fits-first _ _ (λ k p. fits-unless _ _ (named (BackupUnfed _ _) (from-low job sound k p) (sound .into k p)))) (λ _.
       fits-or-else _ _ (fits-first _ _ (λ j p. fits-unless _ _ (named (CommonLoss j) p p))) (λ _.
       fits-first _ _ (λ i p. fits-first _ _ (λ j q. fits-unless _ _ (named (Overlap i j) p q))))))))))
 
@@ -98,6 +99,15 @@ module _ (job : List ℕ) where
         → Unpacks (tell r) (result (replayFiles job plan loss out .answer))
     unfolding replayFiles
     replay-unpacks loss w out = unpacks _ (replay-fits loss w out)
+
+    sets-fits : (out : List ℕ) → FaultFits (setsFault job plan out)
+    unfolding setsFault
+    sets-fits out = fits-or-else _ _ files-fit (λ e. room-fits out _ (omega (arith, files-sound job plan e .0 .tasks-most)))
+
+    -- `seqopchi_fault_sets`
+    pub sets-unpacks : (out : List ℕ) (r : Refusal) → setsFault job plan out ≡ some r → Unpacks (tell r) (result (setsFiles job plan out .answer))
+    unfolding setsFiles
+    sets-unpacks out = unpacks _ (sets-fits out)
 
   pub plan-file-fits : (out : List ℕ) → FaultFits (planFileFault job out)
   unfolding planFileFault

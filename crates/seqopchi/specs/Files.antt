@@ -1,6 +1,6 @@
 -- What the console's calls give, for any bytes: the first refusal in the order of document 01, and the buffer afterwards.
 use Prim.Native.Nat.{ℕ, _*_}
-use mathlib.Core.List.{List}
+use mathlib.Core.List.{List, [], _∷_}
 use mathlib.Core.Option.{Option, none, some}
 use lib.Dec.{ltb}
 use Rattle.reader.specs.declared.job.Job.{Job}
@@ -11,11 +11,12 @@ use Rattle.reader.specs.First.{_or-else_, unless}
 use Rattle.reader.specs.Entries.{tasks, emptyPlan}
 use Rattle.reader.specs.JobFile.{jobFault, jobAt}
 use Rattle.reader.specs.PlanFile.{planLength, planFault, planAt}
-use Rattle.writer.specs.Write.{planBytes, roomFault, Written, writes}
+use Rattle.writer.specs.Write.{pack, flat, planBytes, roomFault, Written, writes}
 use Rattle.rules.specs.declared.Loss.{Loss}
 use Rattle.rules.specs.declared.Loss.the-variants.{NoLoss, Lost}
 use Rattle.rules.specs.Copies.{domains}
 use Rattle.rules.specs.Rules.{rows}
+use Rattle.rules.specs.Gathering.{faultNumber}
 use Rattle.rules.specs.Judge.{breach}
 use Rattle.rules.specs.Attempts.{Attempt, refused, placed}
 use Rattle.rules.specs.Planner.{planner}
@@ -63,3 +64,14 @@ replayFault job plan loss out = filesFault job plan or-else lossFault (jobAt job
 
 unfoldable pub replayFiles : List ℕ → List ℕ → Loss → List ℕ → Written
 replayFiles job plan loss out = writes (replayFault job plan loss out) (replayBytes (jobAt job) (planIn job plan) loss) out
+
+-- (v) the fault sets of a plan, passed or not: 4 bytes a task, bit q for node q
+unfoldable pub faultBytes : Job → Plan → List ℕ
+faultBytes job plan = pack (flat (tasks job) (λ j. faultNumber job plan j ∷ []))
+
+-- reads job, plan, then 17 (4 × N bytes)
+unfoldable pub setsFault : List ℕ → List ℕ → List ℕ → Option Refusal
+setsFault job plan out = filesFault job plan or-else roomFault out (4 * tasks (jobAt job))
+
+unfoldable pub setsFiles : List ℕ → List ℕ → List ℕ → Written
+setsFiles job plan out = writes (setsFault job plan out) (faultBytes (jobAt job) (planIn job plan)) out

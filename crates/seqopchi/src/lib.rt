@@ -1,5 +1,7 @@
 // What the rack's console, written in C, calls: thin above the proved core.
+use copies::table::Copies;
 use judge::judge_plan;
+use judge::sets::plan_sets;
 use planner::plan_job;
 use reader::job_file::read_job;
 use reader::plan_file::read_plan;
@@ -7,13 +9,19 @@ use reader::refusal::Answer;
 use reader::refusal::Refusal;
 use replay::replay_into;
 use rules::Loss;
+use writer::put_number;
 use writer::put_plan;
+ghost use Prim.Native.Nat.{_+_, _*_, _≤_};
+ghost use mathlib.Core.List.{[], _∷_};
 ghost use mathlib.Core.Path.{_≡_};
+ghost use lib.ListN.{length, getD};
 ghost use Rattle.reader.specs.declared.job.Job.{Job};
 ghost use Rattle.reader.specs.Entries.{nodes as nodesOf};
+ghost use Rattle.reader.specs.Limits.{maxTasks};
 ghost use Rattle.reader.specs.Refusals.{answered, result};
+ghost use Rattle.writer.specs.Puts.{Rows};
 ghost use Rattle.rules.specs.declared.Loss.the-variants.{NoLoss, Lost};
-ghost use Rattle.seqopchi.specs.Files.{judgeFiles, planFile, lossFault, replayFiles};
+ghost use Rattle.seqopchi.specs.Files.{judgeFiles, planFile, lossFault, replayFiles, setsFiles};
 
 fn judge_files(job: &[u8], plan: &[u8]) -> Answer
     ensures { λ r. ⌜ r ≡ answered (judgeFiles (now (job .entry)) (now (plan .entry))) ⌝ }
@@ -96,6 +104,42 @@ fn replay_files(job: &[u8], plan: &[u8], loss: Loss, out: &mut [u8]) -> Answer
     Answer::Done
 }
 
+// Puts the fault sets of the first n tasks, entries of the table of copies, from the buffer's front.
+fn put_sets(out: &mut [u8], sets: [u32; Copies::COUNT], n: usize)
+    requires { ⌜ (n ≤ maxTasks) × (4 * n ≤ length (now out)) ⌝ }
+    ensures { λ _. ⌜ Rows (λ j. getD sets (2 * j + 1) 0 ∷ []) 4 (now (out .entry)) 0 n (now (out .exit)) (4 * n) ⌝ }
+{
+    let mut j: usize = 0;
+    while j < n {
+        put_number(out, 4 * j, sets[2 * j + 1]);
+        j += 1;
+    }
+}
+
+fn sets_files(job: &[u8], plan: &[u8], out: &mut [u8]) -> Answer
+    ensures { λ r. ⌜ setsFiles (now (job .entry)) (now (plan .entry)) (now (out .entry)) ≡ record { answer = r; buffer = now (out .exit) } ⌝ }
+{
+    let read = read_job(job);
+    let bad_job = read.answer;
+    let Answer::Done = bad_job else {
+        return bad_job;
+    };
+    let value = read.job;
+    let placed = read_plan(plan, value);
+    let bad_plan = placed.answer;
+    let Answer::Done = bad_plan else {
+        return bad_plan;
+    };
+    let n = value.task_count as usize;
+    if out.len() < 4 * n {
+        return Answer::Refused(Refusal::ShortBuffer(4 * n));
+    }
+    let places = placed.plan;
+    let sets = plan_sets(value, places);
+    put_sets(out, sets, n);
+    Answer::Done
+}
+
 // Judges a job file and a plan file.
 #[no_mangle]
 pub extern "C" fn seqopchi_judge(job: &[u8], plan: &[u8]) -> u64
@@ -132,4 +176,13 @@ pub extern "C" fn seqopchi_replay_loss(
     ensures { λ r. ⌜ (r ≡ result (replayFiles (now (job .entry)) (now (plan .entry)) (Lost node moment) (now (out .entry)) .answer)) × (now (out .exit) ≡ replayFiles (now (job .entry)) (now (plan .entry)) (Lost node moment) (now (out .entry)) .buffer) ⌝ }
 {
     replay_files(job, plan, Loss::Lost(node, moment), out).result()
+}
+
+// The fault sets of two files, passed or not: a number for each task, bit q for node q.
+#[no_mangle]
+pub extern "C" fn seqopchi_fault_sets(job: &[u8], plan: &[u8], out: &mut [u8]) -> u64
+    ensures { λ r. ⌜ (r ≡ result (setsFiles (now (job .entry)) (now (plan .entry)) (now (out .entry)) .answer))
+        × (now (out .exit) ≡ setsFiles (now (job .entry)) (now (plan .entry)) (now (out .entry)) .buffer) ⌝ }
+{
+    sets_files(job, plan, out).result()
 }

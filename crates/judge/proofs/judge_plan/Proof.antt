@@ -2,7 +2,7 @@
 use mathlib.Core.Logic.{inl, inr, ⊎-elim}
 use mathlib.Core.Path.{refl}
 use Rattle.judge.proofs.TaskLaws.{placeable}
-use Rattle.judge.proofs.PlanLaws.{timed, low, fillable, pass-ready, tasks-refused, links-refused, backups-refused, faults-answered}
+use Rattle.judge.proofs.PlanLaws.{timed, low, pass-ready, tasks-refused, links-refused, backups-refused, faults-answered}
 use borrow.Author.Needs.{needs}
 use Rattle.judge.proofs.judge_plan.Statement.{statement}
 use Rattle.judge.proofs.judge_plan.Tie as tie
@@ -33,16 +33,13 @@ returns-2 c =
 
 fault-sets-requires : tie.Need-fault-sets-requires
 fault-sets-requires c κs =
-    let at-walk-links = c .before .before .before .before .before in
-    let at-place-copies = at-walk-links .before .before .before .before .before .before .before .before .before .before in
-    let at-pre = at-place-copies .before .before .before .before .before .before .before .before .before in
-    fillable _ _ (at-pre .pre .0) (at-pre .pre .1) _ _ _ (at-place-copies .place-copies .ensures (at-pre .args .job)) _ _
-    (at-walk-links .walk-links .ensures)
+    let at-place-copies = c .before .before .before .before .before .before .before .before .before .before .before .before .before .before in
+    at-place-copies .before .before .before .before .before .before .before .before .before .pre .0 .tasks-most
 
 backups-fed-requires : tie.Need-backups-fed-requires
 backups-fed-requires c κs =
     let at-if1 = c .before .before .before .before .before in
-    let at-walk-links = at-if1 .before .before .before .before .before .before .before in
+    let at-walk-links = at-if1 .before .before .before .before .before .before in
     let at-place-copies = at-walk-links .before .before .before .before .before .before .before .before .before .before in
     let at-pre = at-place-copies .before .before .before .before .before .before .before .before .before in
     pass-ready _ _ (at-pre .pre .0) (at-pre .pre .1) _ _ _ (at-place-copies .place-copies .ensures (at-pre .args .job)) _ _
@@ -51,7 +48,7 @@ backups-fed-requires c κs =
 returns-3 : tie.Need-returns-3
 returns-3 c =
     let at-fault-sets = c .before .before .before .before .before .before .before .before .before in
-    let at-enum-told3 = at-fault-sets .before .before .before .before in
+    let at-enum-told3 = at-fault-sets .before .before .before in
     let at-enum-told = at-enum-told3 .before .before .before .before .before .before .before .before .before .before in
     let at-pre = at-enum-told .before .before .before .before .before .before .before .before .before .before .before in
     backups-refused _ _ (at-pre .pre .0) (at-pre .pre .1) _ _ _ (at-enum-told .before .before .place-copies .ensures (at-pre .args .job)) _ _
@@ -62,14 +59,14 @@ returns-3 c =
 judge-faults-requires : tie.Need-judge-faults-requires
 judge-faults-requires c κs =
     let up1 = c .before .before .before .before .before .before .before .before .before .before .before .before .before .before in
-    let at-place-copies = up1 .before .before .before .before .before .before .before in
+    let at-place-copies = up1 .before .before .before .before .before .before in
     let at-pre = at-place-copies .before .before .before .before .before .before .before .before .before in
     low _ _ (at-pre .pre .0) (at-pre .pre .1) _ _ _ (at-place-copies .place-copies .ensures (at-pre .args .job))
 
 returns-4 : tie.Need-returns-4
 returns-4 c =
     let at-if1 = c .before .before .before .before .before in
-    let at-enum-told3 = at-if1 .before .before .before .before .before in
+    let at-enum-told3 = at-if1 .before .before .before .before in
     let at-enum-told = at-enum-told3 .before .before .before .before .before .before .before .before .before .before in
     let at-pre = at-enum-told .before .before .before .before .before .before .before .before .before .before .before in
     faults-answered _ _ (at-pre .pre .0) (at-pre .pre .1) _ _ _ (at-enum-told .before .before .place-copies .ensures (at-pre .args .job)) _ _

@@ -80,22 +80,28 @@ put-requires c κs =
 add-put : tie.Need-add-put Inv-loop μ-loop
 add-put c = omega (arith, room (c .before .before .before .before .before .before .before .before .before .before .before .before .before))
 
+bit-of-node-requires : tie.Need-bit-of-node-requires Inv-loop μ-loop
+bit-of-node-requires c κs =
+    let at-noted4 = c .before .before .before .before .before .before .before .before .before .before .before .before .before in
+    let both = copied at-noted4 in
+    omega (arith, both .before .copy-of .ensures .1, both .copy-of2 .ensures .1)
+
 put-requires-2 : tie.Need-put-requires-2 Inv-loop μ-loop
 put-requires-2 c κs =
-    let at-put = c .before .before .before .before in
+    let at-put = c .before .before .before .before .before in
     (at-put .put .ensures .0, omega (arith, room (at-put .before .before .before .before .before .before .before .before .before)))
 
 add-j : tie.Need-add-j Inv-loop μ-loop
-add-j c = omega (arith, room (c .before .before .before .before .before .before .before .before .before .before .before .before .before .before))
+add-j c = omega (arith, room (c .before .before .before .before .before .before .before .before .before .before .before .before .before .before .before))
 
 loop-less : tie.Need-loop-less Inv-loop μ-loop
 loop-less c =
-    let at-noted4 = c .before .before .before .before .before .before .before .before .before .before .before .before .before .before in
+    let at-noted4 = c .before .before .before .before .before .before .before .before .before .before .before .before .before .before .before in
     omega (arith, turn at-noted4 .loop-test .taken)
 
 loop-again : tie.Need-loop-again Inv-loop μ-loop
 loop-again c =
-    let at-put = c .before .before .before .before .before in
+    let at-put = c .before .before .before .before .before .before in
     let at-noted4 = at-put .before .before .before .before .before .before .before .before .before in
     let at-noted3 = at-noted4 .before .before .before in
     let at-noted2 = at-noted3 .before .before .before .before in
@@ -104,7 +110,8 @@ loop-again c =
     let at-loop-test = at-copy-of2 .before .before .before .before in
     λ job. placing-more _ _ (at-loop-test .before .before .pre .0) _ _ _ _ _ _ _ (at-loop-test .before .loop .inv job) (at-loop-test .loop-test .taken)
     _ _ (at-copy-of2 .before .copy-of .ensures .0) (at-copy-of2 .copy-of2 .ensures .0) _ _ _ _ (at-noted .noted .ensures) (at-noted2 .noted2 .ensures)
-    (at-noted3 .noted3 .ensures) (at-noted4 .noted4 .ensures) _ _ (at-put .put .ensures .1) (c .put2 .ensures .1) (c .put2 .ensures .0)
+    (at-noted3 .noted3 .ensures) (at-noted4 .noted4 .ensures) _ (c .before .bit-of-node .ensures) _ _ (at-put .put .ensures .1)
+    (c .put2 .ensures .1) (c .put2 .ensures .0)
 
 returns : tie.Need-returns Inv-loop μ-loop
 returns c =
@@ -119,5 +126,5 @@ place-copies-spec =
     (λ c κs. search needs) (λ c κs. search needs) add-noted (λ c κs. search needs) (λ c κs. search needs) mul-k
     add-leave (λ c. omega (arith, room (all-noted c))) (λ c. omega (arith, room (all-noted c))) add-leave-2
     (λ c. omega (arith, room (all-noted (c .before .before)))) (λ c. omega (arith, room (all-noted (c .before .before))))
-    (λ c. omega (arith, room (all-noted (c .before .before)))) put-requires add-put put-requires-2 add-j loop-less loop-again
+    (λ c. omega (arith, room (all-noted (c .before .before)))) put-requires add-put bit-of-node-requires put-requires-2 add-j loop-less loop-again
     (λ c κs. search needs) returns)

@@ -1,8 +1,8 @@
--- `judge::links::late_bit` meets its contract.
+-- `copies::sets::late_bit` meets its contract.
 use borrow.Author.Needs.{needs}
-use Rattle.judge.proofs.SetMore.{shifted-bit}
-use Rattle.judge.proofs.links.late_bit.Statement.{statement}
-use Rattle.judge.proofs.links.late_bit.Tie as tie
+use Rattle.copies.proofs.MemberLaws.{shifted-bit}
+use Rattle.copies.proofs.sets.late_bit.Statement.{statement}
+use Rattle.copies.proofs.sets.late_bit.Tie as tie
 
 returns : tie.Need-returns
 returns c = shifted-bit (c .before .args .kept) _ _ (c .before .pre) (c .one-unless .ensures)

@@ -1,18 +1,18 @@
--- `judge::faults::gather` meets its contract.
+-- `copies::gather::gather_task` meets its contract.
 use native.Mathlib.Omega.{arith}
-use Rattle.judge.proofs.GatherLaws.{Gathering, gather-start, gather-more, gather-done, sender-low, sender-part}
+use Rattle.copies.proofs.GatherLaws.{Gathering, gather-start, gather-more, gather-done, gathers, sender-low, sender-part}
 use borrow.Author.Needs.{needs}
-use Rattle.judge.proofs.faults.gather.Statement.{statement}
-use Rattle.judge.proofs.faults.gather.Tie as tie
+use Rattle.copies.proofs.gather.gather_task.Statement.{statement}
+use Rattle.copies.proofs.gather.gather_task.Tie as tie
 
 abbrev Inv-loop : tie.InvT-loop
-Inv-loop own weak sets set₀ left₀ set left = Gathering own weak sets set left
+Inv-loop sets so-far weak set₀ left₀ set left = Gathering so-far weak sets set left
 
 abbrev μ-loop : tie.MeasureT-loop
-μ-loop own weak sets set₀ left₀ set left = left
+μ-loop sets so-far weak set₀ left₀ set left = left
 
 loop-holds : tie.Need-loop-holds Inv-loop μ-loop
-loop-holds c = gather-start _ _ _ _ (c .bit-of-node .ensures)
+loop-holds c = gather-start _ _ _
 
 cast-i : tie.Need-cast-i Inv-loop μ-loop
 cast-i c = omega (arith, sender-low (c .before .loop .left) (omega arith) (omega arith))
@@ -44,10 +44,12 @@ loop-again c =
     gather-more _ _ _ _ (at-loop .loop .left) _ (at-loop .loop .inv) (omega arith) (omega arith) (c .bit-of-task .ensures)
 
 returns : tie.Need-returns Inv-loop μ-loop
-returns c = gather-done _ _ _ _ _ (c .before .loop .inv) (c .loop-test .left)
+returns c =
+    let all = gather-done _ _ _ _ _ (c .before .loop .inv) (c .loop-test .left) in
+    (all, gathers _ _ _ _ all)
 
-pub gather-spec : {M : Type 1} → statement M
-gather-spec =
+pub gather-task-spec : {M : Type 1} → statement M
+gather-task-spec =
     tie.close
-    (tie.spec Inv-loop μ-loop (λ c κs. search needs) loop-holds cast-i mul-set add-set mul-set-2 element-copy-out-set bit-of-task-requires sub-left
+    (tie.spec Inv-loop μ-loop loop-holds cast-i mul-set add-set mul-set-2 element-copy-out-set bit-of-task-requires sub-left
     loop-less loop-again returns)
