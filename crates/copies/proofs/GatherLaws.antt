@@ -23,7 +23,7 @@ use Rattle.reader.proofs.FirstLaws.{any-i, any-e, any-same}
 use Rattle.rules.specs.Rules.{Row, strong, carries, rows}
 use Rattle.rules.specs.Gathering.{gatheredTo, withSets}
 use Rattle.rules.proofs.FaultSetLaws.{from-low}
-use Rattle.rules.proofs.GatheringLaws.{gather-here, gather-else}
+use Rattle.rules.proofs.GatheringLaws.{gathered-all, gather-here, gather-else}
 use Rattle.copies.specs.Sets.{has}
 use Rattle.copies.specs.Gathered.{joined, weakLink, ArrivesFrom, SetsTo, Gathers}
 use Rattle.copies.proofs.SetLaws.{has-union, has-none}
@@ -140,3 +140,8 @@ module _ (job : Job) (plan : Plan) (j : ℕ) (sound : Sound job) (low : j < task
 pub gathers : (sets : List ℕ) (x weak r : ℕ) → ((q : ℕ) → has r q ≡ joined x weak sets q) → Gathers sets x weak r
 gathers sets x weak r is job plan j sound low arrives e h =
     task-more job plan j sound low weak arrives sets h r (subst (λ y. (q : ℕ) → has r q ≡ joined y weak sets q) e is)
+
+-- after the last task the table has the sets of the rules
+pub all-gathered : (job : Job) (plan : Plan) (sets : List ℕ) → SetsTo job plan (tasks job) sets
+    → (j q : ℕ) → j < tasks job → has (getD sets (2 * j + 1) 0) q ≡ rows job plan j .faults q
+all-gathered job plan sets filled j q p = filled .faults j q p ∙ ap (λ f. f q) (gathered-all job plan j p)

@@ -12,7 +12,7 @@ use borrow.Author.Tests.{eqb-true, eq-eqb, ne-eqb}
 use Rattle.reader.specs.Tests.{_and_}
 use Rattle.reader.proofs.TestLaws.{clash, same-test, and-yes, and-no}
 use Rattle.copies.specs.Sets.{has}
-use Rattle.copies.proofs.SetLaws.{shifted}
+use Rattle.copies.proofs.SetLaws.{has-none, has-one, shifted}
 
 -- the lowest place, and the others
 pub has-first : (s : ℕ) → has s 0 ≡ eqb (s % 2) 1
@@ -88,3 +88,8 @@ least-has k s p h = least k s p h .1
 pub shifted-bit : (s : Bool) (bit i : ℕ) → i < 64 → bit ≡ cond s 0 1 → bit * 2 ^ i % 2 ^ 64 ≡ cond s 0 (2 ^ i)
 shifted-bit true bit i p e = rw e (ap (λ (x : ℕ). x % 2 ^ 64) (zero-mul (2 ^ i)))
 shifted-bit false bit i p e = rw e (shifted 64 i p)
+
+-- and its member, where there is one
+pub late-has : (kept : Bool) (n bit i : ℕ) → bit ≡ cond kept 0 (2 ^ n) → has bit i ≡ (eqb n i and not kept)
+late-has true n bit i e = ap (λ b. has b i) e ∙ has-none i ∙ sym (and-no (eqb n i))
+late-has false n bit i e = ap (λ b. has b i) e ∙ has-one n i ∙ sym (and-yes (eqb n i))

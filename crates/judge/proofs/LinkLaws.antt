@@ -1,6 +1,6 @@
 -- Laws of the pass over the links: one weak link more, D at each, and which are sure.
 use Prim.Native.Nat.{ℕ, _+_, _*_, _^_, _≤_, _<_}
-use mathlib.Core.Bool.{Bool, true, false, cond}
+use mathlib.Core.Bool.{Bool, true, false, not, cond}
 use mathlib.Core.List.{List}
 use mathlib.Core.Path.{_≡_, refl, sym, _∙_, ap, ap₂, subst}
 use native.Mathlib.Decide.{decLt}
@@ -36,7 +36,8 @@ use Rattle.copies.specs.Table.{copyCount, entry, rowOf}
 use Rattle.copies.specs.Gathered.{weakLink}
 use Rattle.copies.proofs.ArrivalLaws.{comes-is}
 use Rattle.copies.proofs.ListMore.{replicated}
-use Rattle.copies.proofs.SetLaws.{has-union, has-one, has-none}
+use Rattle.copies.proofs.SetLaws.{has-union, has-none}
+use Rattle.copies.proofs.MemberLaws.{late-has}
 use Rattle.judge.specs.Notes.{nowhere, firstBroken, notedOf, seen}
 use Rattle.judge.specs.Parts.{byLinks}
 use Rattle.judge.specs.Links.{linked, Timed, WeakTo, sure, SureBut, LinksJudged}
@@ -48,28 +49,16 @@ module _ (job : Job) (t : ℕ → Row) (k : ℕ) where
   abbrev pub isStrong : Bool
   isStrong = strong job (link job k) (t (link job k .from)) (t (link job k .to) .primary)
 
-  weak-strong : (i j : ℕ) → isStrong ≡ true → weakLink job t i j k ≡ false
-  unfolding weakLink _and_
-  weak-strong i j e = rw e (last (eqb (link job k .to) j) (eqb (link job k .from) i))
-    where
-      last : (a b : Bool) → (a and b and false) ≡ false
-      last true true = refl
-      last true false = refl
-      last false b = refl
-
   weak-other : (i j : ℕ) → eqb (link job k .to) j ≡ false → weakLink job t i j k ≡ false
   unfolding weakLink _and_
   weak-other i j e = rw e
 
-  weak-here : (i j : ℕ) → isStrong ≡ false → eqb (link job k .to) j ≡ true → weakLink job t i j k ≡ eqb (link job k .from) i
-  unfolding weakLink _and_
-  weak-here i j w e = split (eqb (link job k .from) i) (λ h. rw (e, h, w)) (λ h. rw (e, h))
-
   -- the bit that it adds
   weak-bit : (i j : ℕ) (s : Bool) (bit : ℕ) → eqb (link job k .to) j ≡ true → s ≡ isStrong → bit ≡ cond s 0 (2 ^ (link job k .from))
       → has bit i ≡ weakLink job t i j k
-  weak-bit i j true bit at es eb = ap (λ b. has b i) eb ∙ has-none i ∙ sym (weak-strong i j (sym es))
-  weak-bit i j false bit at es eb = ap (λ b. has b i) eb ∙ has-one (link job k .from) i ∙ sym (weak-here i j (sym es) at)
+  unfolding weakLink _and_
+  weak-bit i j s bit at es eb =
+      rw at (late-has s (link job k .from) bit i eb ∙ ap (λ b. eqb (link job k .from) i and not b) es)
 
   pub weak-more : (into : List ℕ) → WeakTo job t k into → (s : Bool) (bit : ℕ) → s ≡ isStrong → bit ≡ cond s 0 (2 ^ (link job k .from))
       → link job k .to < length into → WeakTo job t (k + 1) (set into (link job k .to) (bitOr (getD into (link job k .to) 0) bit))

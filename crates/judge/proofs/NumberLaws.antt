@@ -2,7 +2,7 @@
 use Prim.Native.Nat.{ℕ, _+_, _*_, _^_, _≤_, _<_}
 use mathlib.Core.Bool.{true, false}
 use mathlib.Core.List.{List}
-use mathlib.Core.Path.{_≡_, sym, _∙_, ap}
+use mathlib.Core.Path.{_≡_, sym, _∙_}
 use mathlib.Core.Logic.{_↔_}
 use native.Mathlib.Decide.{decLt}
 use native.Mathlib.Omega.{arith}
@@ -17,10 +17,10 @@ use Rattle.rules.specs.Rules.{rows}
 use Rattle.rules.specs.Paths.{InFaultSet}
 use Rattle.rules.specs.Gathering.{faultNumber}
 use Rattle.rules.proofs.FaultPaths.{fault-set-is}
-use Rattle.rules.proofs.GatheringLaws.{gathered-all}
 use Rattle.copies.specs.Sets.{has}
 use Rattle.copies.specs.Gathered.{SetsTo}
 use Rattle.copies.proofs.MemberLaws.{has-part}
+use Rattle.copies.proofs.GatherLaws.{all-gathered}
 use Rattle.copies.proofs.NumberLaws.{number-is, number-has, number-below}
 use Rattle.judge.proofs.PlanLaws.{faults-low}
 
@@ -40,7 +40,7 @@ module _ (job : Job) (plan : Plan) (sound : Sound job) (reads : PlanSound job pl
   pub fault-number : (sets : List ℕ) → SetsTo job plan (tasks job) sets → getD sets (2 * j + 1) 0 ≡ faultNumber job plan j
   unfolding faultNumber
   fault-number sets filled =
-      number-is (nodes job) _ (rows job plan j .faults) (λ q. filled .faults j q low ∙ ap (λ f. f q) (gathered-all job plan j low)) none-beyond
+      number-is (nodes job) _ (rows job plan j .faults) (λ q. all-gathered job plan sets filled j q low) none-beyond
 
   -- bit q says whether q is in the fault set of document 01, by paths of weak links
   bit-is : (q : ℕ) → has (faultNumber job plan j) q ≡ rows job plan j .faults q

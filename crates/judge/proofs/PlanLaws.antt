@@ -29,7 +29,7 @@ use Rattle.rules.specs.Waits.{waitsForBoth}
 use Rattle.rules.specs.Judge.{firstTask, firstLink, judge}
 use Rattle.rules.specs.Gathering.{ownNode}
 use Rattle.rules.proofs.FaultSetLaws.{from-low, faults-here, faults-e, rows-faults, row-primary, row-backup}
-use Rattle.rules.proofs.GatheringLaws.{gathered-none, gathered-all}
+use Rattle.rules.proofs.GatheringLaws.{gathered-none}
 use Rattle.rules.proofs.Waits.{both-keeps}
 use Rattle.copies.specs.declared.table.Copies.{Copies}
 use Rattle.copies.specs.Sets.{has}
@@ -38,6 +38,7 @@ use Rattle.copies.specs.Table.{table, entry, rowOf, Held}
 use Rattle.copies.specs.Gathered.{weakLink, SetsTo}
 use Rattle.copies.proofs.SetLaws.{has-none, has-one}
 use Rattle.copies.proofs.TableLaws.{same-row}
+use Rattle.copies.proofs.GatherLaws.{all-gathered}
 use Rattle.copies.proofs.ArrivalLaws.{backup-fed, result-is}
 use Rattle.judge.specs.Parts.{byTasks, byLinks, byBackups, byFaults}
 use Rattle.judge.specs.Tasks.{CopyFits, Copied, TasksJudged}
@@ -134,8 +135,8 @@ module _ (job : Job) (plan : Plan) (sound : Sound job) (reads : PlanSound job pl
       abbrev final : Copies
       final = table (cs .node) (cs .start) (cs .finish) sets
 
-      faults-at : (j q : ℕ) → j < tasks job → has (getD sets (2 * j + 1) 0) q ≡ t j .faults q
-      faults-at j q p = filled .faults j q p ∙ ap (λ f. f q) (gathered-all job plan j p)
+      abbrev faults-at : (j q : ℕ) → j < tasks job → has (getD sets (2 * j + 1) 0) q ≡ t j .faults q
+      faults-at = all-gathered job plan sets filled
 
       rows-are : (j : ℕ) → j < tasks job → rowOf final j ≡ t j
       unfolding rowOf

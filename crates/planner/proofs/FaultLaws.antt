@@ -8,7 +8,7 @@ use lib.Dec.{eqb}
 use lib.ListN.{getD}
 use Rattle.reader.specs.Tests.{_and_, _or_}
 use Rattle.reader.specs.First.{any}
-use Rattle.reader.proofs.TestLaws.{and-yes, and-no, or-none, or-join}
+use Rattle.reader.proofs.TestLaws.{or-none, or-join}
 use Rattle.reader.proofs.FirstLaws.{any-start}
 use Rattle.rules.specs.declared.Copy.{Copy}
 use Rattle.copies.specs.Sets.{has}
@@ -16,6 +16,7 @@ use Rattle.copies.specs.Arrival.{comes}
 use Rattle.copies.specs.Chain.{Chain}
 use Rattle.copies.specs.Gathered.{joined}
 use Rattle.copies.proofs.SetLaws.{has-none, has-one, has-union}
+use Rattle.copies.proofs.MemberLaws.{late-has}
 use Rattle.copies.proofs.GatherLaws.{through-members}
 use Rattle.planner.specs.declared.senders.Sender.{Sender}
 use Rattle.planner.specs.Senders.{Results, senderAt, Sending}
@@ -25,13 +26,6 @@ use Rattle.planner.proofs.SenderLaws.{Walk, walk-start, Next}
 -- the link comes from task i, and is weak
 abbrev weakFrom : Copy → ℕ → Sender → Bool
 weakFrom p i x = eqb (x .task) i and not (comes (x .backup) p)
-
--- the bit that it adds
-weak-bit : (p : Copy) (i : ℕ) (x : Sender) (strong : Bool) (bit : ℕ) → strong ≡ comes (x .backup) p → bit ≡ cond strong 0 (2 ^ x .task)
-    → has bit i ≡ weakFrom p i x
-weak-bit p i x true bit e b = ap (λ s. has s i) b ∙ has-none i ∙ sym (ap (λ s. eqb (x .task) i and not s) (sym e) ∙ and-no (eqb (x .task) i))
-weak-bit p i x false bit e b =
-    ap (λ s. has s i) b ∙ has-one (x .task) i ∙ sym (ap (λ s. eqb (x .task) i and not s) (sym e) ∙ and-yes (eqb (x .task) i))
 
 or-swap : (a b : Bool) → (a or b) ≡ (b or a)
 unfolding _or_
@@ -59,12 +53,14 @@ module _ (next from delay : List ℕ) (rs : Results) (last : ℕ) (p : Copy) whe
   pub faulting-more : (left weak bit : ℕ) (strong : Bool) → Faulting left weak → (x : Sender) → Next next from delay rs last left x
       → strong ≡ comes (x .backup) p → bit ≡ cond strong 0 (2 ^ x .task) → Faulting (x .next) (bitOr weak bit)
   faulting-more left weak bit strong h x n e b =
+      let added : (i : ℕ) → has bit i ≡ weakFrom p i x =
+      λ i. late-has strong (x .task) bit i b ∙ ap (λ s. eqb (x .task) i and not s) e in
       record {
         walk = n .walk;
         is = λ key j c i.
             let rest = over key j (x .next) i in
             ap (λ y. y or rest) (has-union weak bit i) ∙ or-join _ _ _
-            ∙ ap (λ y. has weak i or y) (or-swap (has bit i) rest ∙ ap (λ y. rest or y) (weak-bit p i x strong bit e b)
+            ∙ ap (λ y. has weak i or y) (or-swap (has bit i) rest ∙ ap (λ y. rest or y) (added i)
             ∙ sym (n .some key j c (weakFrom p i)))
             ∙ h .is key j c i;
       }

@@ -21,8 +21,8 @@ use Rattle.replay.proofs.PackLaws.{length-rows, pack-more}
 use Rattle.writer.proofs.SameNumbers.{flat-same}
 
 -- `put_outcome`
-pub outcome-put : (d d₁ d₂ d₃ : List ℕ) (at : ℕ) (o : Outcome) → at + 12 ≤ length d → d₁ ≡ splice d at (bytes (o .primary)) → d₂ ≡ splice d₁ (at + 4) (bytes (o .backup))
-    → d₃ ≡ splice d₂ (at + 8) (bytes (o .finish)) → d₃ ≡ splice d at (pack (numbers o))
+pub outcome-put : (d d₁ d₂ d₃ : List ℕ) (at : ℕ) (o : Outcome) → at + 12 ≤ length d → d₁ ≡ splice d at (bytes (o .primary))
+    → d₂ ≡ splice d₁ (at + 4) (bytes (o .backup)) → d₃ ≡ splice d₂ (at + 8) (bytes (o .finish)) → d₃ ≡ splice d at (pack (numbers o))
 unfolding pack
 outcome-put d d₁ d₂ d₃ at o h e₁ e₂ e₃ =
     let a = bytes (o .primary) in

@@ -151,7 +151,8 @@ pub extern "C" fn seqopchi_judge(job: &[u8], plan: &[u8]) -> u64
 // Plans a job file into a buffer, as a plan file.
 #[no_mangle]
 pub extern "C" fn seqopchi_plan(job: &[u8], out: &mut [u8]) -> u64
-    ensures { λ r. ⌜ (r ≡ result (planFile (now (job .entry)) (now (out .entry)) .answer)) × (now (out .exit) ≡ planFile (now (job .entry)) (now (out .entry)) .buffer) ⌝ }
+    ensures { λ r. ⌜ (r ≡ result (planFile (now (job .entry)) (now (out .entry)) .answer))
+        × (now (out .exit) ≡ planFile (now (job .entry)) (now (out .entry)) .buffer) ⌝ }
 {
     plan_file(job, out).result()
 }
@@ -159,7 +160,8 @@ pub extern "C" fn seqopchi_plan(job: &[u8], out: &mut [u8]) -> u64
 // Replays two files with no loss: three numbers for each task.
 #[no_mangle]
 pub extern "C" fn seqopchi_replay(job: &[u8], plan: &[u8], out: &mut [u8]) -> u64
-    ensures { λ r. ⌜ (r ≡ result (replayFiles (now (job .entry)) (now (plan .entry)) NoLoss (now (out .entry)) .answer)) × (now (out .exit) ≡ replayFiles (now (job .entry)) (now (plan .entry)) NoLoss (now (out .entry)) .buffer) ⌝ }
+    ensures { λ r. ⌜ (r ≡ result (replayFiles (now (job .entry)) (now (plan .entry)) NoLoss (now (out .entry)) .answer))
+        × (now (out .exit) ≡ replayFiles (now (job .entry)) (now (plan .entry)) NoLoss (now (out .entry)) .buffer) ⌝ }
 {
     replay_files(job, plan, Loss::NoLoss, out).result()
 }
@@ -173,7 +175,8 @@ pub extern "C" fn seqopchi_replay_loss(
     moment: u32,
     out: &mut [u8],
 ) -> u64
-    ensures { λ r. ⌜ (r ≡ result (replayFiles (now (job .entry)) (now (plan .entry)) (Lost node moment) (now (out .entry)) .answer)) × (now (out .exit) ≡ replayFiles (now (job .entry)) (now (plan .entry)) (Lost node moment) (now (out .entry)) .buffer) ⌝ }
+    ensures { λ r. ⌜ (r ≡ result (replayFiles (now (job .entry)) (now (plan .entry)) (Lost node moment) (now (out .entry)) .answer))
+        × (now (out .exit) ≡ replayFiles (now (job .entry)) (now (plan .entry)) (Lost node moment) (now (out .entry)) .buffer) ⌝ }
 {
     replay_files(job, plan, Loss::Lost(node, moment), out).result()
 }

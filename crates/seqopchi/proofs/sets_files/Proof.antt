@@ -1,5 +1,5 @@
 -- The call that tells fault sets: a refusal of a file or of the buffer, or the sets.
-use Rattle.seqopchi.proofs.ReadLaws.{job-sound, job-stops, plan-stops, files-done, both-sound}
+use Rattle.seqopchi.proofs.ReadLaws.{job-sound, job-stops, plan-stops, FilesDone, files-done, both-sound}
 use Rattle.seqopchi.proofs.SetsLaws.{sets-stops, sets-no-room, sets-put}
 use borrow.Author.Needs.{needs}
 use Rattle.seqopchi.proofs.sets_files.Statement.{statement}
@@ -18,35 +18,30 @@ returns-2 c =
     (c .before .before .read-plan .ensures) (c .enum-told4 .given .1) in
     sets-stops _ _ _ _ bad (c .enum-told4 .given .1)
 
+-- both files, from where the plan is read
+read-both : (c : tie.After-enum-told3)
+    → let at-job = c .before .before .before .before .before .before in let files = at-job .before .before .before .before in
+    FilesDone (files .args .job .now) (files .args .plan .now) (at-job .read-job .result .job) (c .before .before .read-plan .result .plan)
+read-both c =
+    let at-told = c .before .before .before .before in
+    files-done _ _ (at-told .before .before .read-job .ensures) (at-told .enum-told .given .1) _ _
+    (c .before .before .read-plan .ensures) (c .enum-told3 .given .1)
+
 returns-3 : tie.Need-returns-3
-returns-3 c =
-    let at-told3 = c .before .before in
-    let at-told = at-told3 .before .before .before .before in
-    let done = files-done _ _ (at-told .before .before .read-job .ensures) (at-told .enum-told .given .1) _ _
-    (at-told3 .before .before .read-plan .ensures) (at-told3 .enum-told3 .given .1) in
-    sets-no-room _ _ _ _ done _ (c .if1 .taken)
+returns-3 c = sets-no-room _ _ _ _ (read-both (c .before .before)) _ (c .if1 .taken)
 
 plan-sets-requires : tie.Need-plan-sets-requires
-plan-sets-requires c κs =
-    let at-told3 = c .before .before .before in
-    let at-told = at-told3 .before .before .before .before in
-    both-sound _ _ _ _ (files-done _ _ (at-told .before .before .read-job .ensures) (at-told .enum-told .given .1) _ _
-    (at-told3 .before .before .read-plan .ensures) (at-told3 .enum-told3 .given .1))
+plan-sets-requires c κs = both-sound _ _ _ _ (read-both (c .before .before .before))
 
 put-sets-requires : tie.Need-put-sets-requires
-put-sets-requires c κs =
-    let at-told = c .before .before .before .before .before .before .before .before .before in
-    (job-sound _ _ (at-told .before .before .read-job .ensures) (at-told .enum-told .given .1) .tasks-most, c .before .before .before .if1 .left)
+put-sets-requires c κs = (both-sound _ _ _ _ (read-both (c .before .before .before .before .before)) .0 .tasks-most, c .before .before .before .if1 .left)
 
 returns-4 : tie.Need-returns-4
 returns-4 c =
-    let at-if1 = c .before .before .before .before .before .before in
-    let at-told3 = at-if1 .before .before in
-    let at-told = at-told3 .before .before .before .before in
-    let done = files-done _ _ (at-told .before .before .read-job .ensures) (at-told .enum-told .given .1) _ _
-    (at-told3 .before .before .read-plan .ensures) (at-told3 .enum-told3 .given .1) in
     let at-sets = c .before .before .before .before in
-    sets-put _ _ _ _ done _ (at-if1 .if1 .left) (at-sets .plan-sets .result) (at-sets .plan-sets .ensures) _ (c .before .before .put-sets .ensures)
+    let at-if1 = at-sets .before .before in
+    sets-put _ _ _ _ (read-both (at-if1 .before .before)) _ (at-if1 .if1 .left) (at-sets .plan-sets .result) (at-sets .plan-sets .ensures) _
+    (c .before .before .put-sets .ensures)
 
 pub sets-files-spec : {M : Type 1} → statement M
 sets-files-spec =
