@@ -86,3 +86,7 @@ charts: build/seqopchi
 	build/seqopchi plan demo/lessons.job -o demo/lessons.plan
 	build/seqopchi chart demo/lessons.job demo/lessons.plan \
 		-o examples/lessons-plan.svg
+	build/seqopchi pack examples/drawer.txt -o demo/drawer.job
+	build/seqopchi plan demo/drawer.job -o demo/drawer.plan
+	build/seqopchi chart demo/drawer.job demo/drawer.plan --lose 5@8 \
+		-o examples/drawer-loss.svg

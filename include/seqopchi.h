@@ -6,7 +6,9 @@
  * byte first; N is the job's task count and P its node count. From version 2 on each
  * task of a job has a ready time, before its deadline in the file, and from version 3
  * on each node has a send time, behind its detect time; in older versions these count
- * as 0. A plan has version 1 for each job.
+ * as 0. From version 4 on each node has a supply group, behind its send time: the nodes
+ * of one group are lost together. In older versions each node is a group by itself,
+ * whose number is the node's. A plan has version 1 for each job.
  * The description of one more task is its entry as the job's version has it, a link
  * count, and from and delay of each link to it, rising strictly by from. A booking is
  * a description with four numbers behind it: primary node, primary start, backup
@@ -40,7 +42,7 @@
  * which buffer is meant. seqopchi_plan with out_len 0 tells whether a job reads well;
  * where seqopchi_judge gives 0, job and plan have no fault.
  *   1 short       fewer than 4 bytes are left for a number
- *   2 version     a job's version is not 1, 2 or 3, or a plan's is not 1
+ *   2 version     a job's version is none of 1 to 4, or a plan's is not 1
  *   3 count       a count is outside its limits, or the plan's count is not N
  *   4 value       any other number is outside its limits; also a link's to
  *                 that is not above its from. A from in a description is below N
@@ -64,7 +66,7 @@ extern "C" {
 #endif
 
 /* Versions and limits of both files. Job versions count from 1. */
-#define SEQOPCHI_NEWEST_JOB_VERSION 3
+#define SEQOPCHI_NEWEST_JOB_VERSION 4
 #define SEQOPCHI_PLAN_VERSION 1
 #define SEQOPCHI_MIN_NODES 2
 #define SEQOPCHI_MAX_NODES 16
@@ -73,15 +75,17 @@ extern "C" {
 #define SEQOPCHI_MAX_LINKS 512
 #define SEQOPCHI_MAX_DETECT 1000
 #define SEQOPCHI_MAX_SEND 1000
+#define SEQOPCHI_MAX_GROUP 15
 #define SEQOPCHI_MIN_DEADLINE 1
 /* Ready times, deadlines, run times, delays and starts. */
 #define SEQOPCHI_MAX_TIME 1000000
 
 /* Lengths in bytes of what is read and written. Those of a job, a description and a
  * booking go by the job's version: the entry of a node (detect time; send time, from
- * version 3 on) and of a task (ready time, from version 2 on; deadline; run times),
- * then all. */
-#define SEQOPCHI_NODE_BYTES(version) ((version) >= 3 ? 8 : 4)
+ * version 3 on; group, from version 4 on) and of a task (ready time, from version 2 on;
+ * deadline; run times), then all. */
+#define SEQOPCHI_NODE_BYTES(version) \
+    ((version) >= 4 ? 12 : (version) >= 3 ? 8 : 4)
 #define SEQOPCHI_TASK_BYTES(version, nodes) \
     (((version) >= 2 ? 8 : 4) + 4 * (nodes))
 #define SEQOPCHI_JOB_BYTES(version, nodes, tasks, links) \
@@ -94,7 +98,7 @@ extern "C" {
     (SEQOPCHI_TASK_BYTES(version, nodes) + 4 + 8 * (links))
 #define SEQOPCHI_BOOKING_BYTES(version, nodes, links) \
     (SEQOPCHI_DESCRIPTION_BYTES(version, nodes, links) + 16)
-#define SEQOPCHI_MAX_JOB_BYTES 10896 /* of the newest version */
+#define SEQOPCHI_MAX_JOB_BYTES 10960 /* of the newest version */
 #define SEQOPCHI_MAX_PLAN_BYTES SEQOPCHI_PLAN_BYTES(SEQOPCHI_MAX_TASKS)
 #define SEQOPCHI_MAX_REPLAY_BYTES SEQOPCHI_REPLAY_BYTES(SEQOPCHI_MAX_TASKS)
 #define SEQOPCHI_MAX_FAULT_SETS_BYTES SEQOPCHI_FAULT_SETS_BYTES(SEQOPCHI_MAX_TASKS)
@@ -126,7 +130,7 @@ enum seqopchi_refusal {
     SEQOPCHI_REFUSED_NO_PRIMARY = 15,     /* no primary; task / task */
     SEQOPCHI_REFUSED_NO_BACKUP = 16,      /* no backup; task / task */
     SEQOPCHI_REFUSED_SHORT_BUFFER = 17,   /* short buffer; bytes needed / 0 */
-    SEQOPCHI_REFUSED_NO_SUCH_NODE = 18,   /* no such node; that number / 0 */
+    SEQOPCHI_REFUSED_NO_SUCH_NODE = 18,   /* no such node; that group / 0 */
     SEQOPCHI_REFUSED_TOO_SOON = 19,       /* too soon; task / task */
     SEQOPCHI_REFUSED_FULL = 20,           /* full; new task number / 0 */
     SEQOPCHI_REFUSED_STALE = 21           /* stale; task / task */
@@ -143,15 +147,16 @@ enum seqopchi_outcome {
  * of i to a copy of j, for planner and replay too, is 0 on one node, else the link's
  * plus the send time of the node that the copy of i is on. A link i to j is strong if
  * backup i's finish plus delay is at most primary j's start, else weak. The fault
- * set of a task, which document 01 calls its peril, is the nodes that hold its
- * primary or the primary of a task from which a path of weak links leads to it. In
- * this order:
+ * set of a task, which document 01 calls its peril, is the groups of the nodes that
+ * hold its primary or the primary of a task from which a path of weak links leads to
+ * it. In this order:
  *   1 to 6          the faults of the job
  *   1 to 4, 6, 7    the faults of the plan
  *   8, 19, 9 to 14  the first broken rule: A, the ready times, B to G in turn,
  *                   each over all tasks (links, pairs) in rising order
  *   0               the plan is passed
- *  8 same node      A: primary and backup on different nodes; task / task
+ *  8 same node      A: primary and backup in different groups, so on different nodes;
+ *                   task / task
  * 19 too soon       a primary starts no sooner than its task's ready time, which
  *                   is 0 in a job of version 1; no backup is held to it; task / task
  *  9 early          B: a backup starts no sooner than its primary's finish plus
@@ -161,10 +166,10 @@ enum seqopchi_outcome {
  *                   start; link i / j
  * 12 backup unfed   E: primary i's finish plus delay is at most backup j's start,
  *                   and so is backup i's where the fault sets of i and j have
- *                   a common node; link i / j
- * 13 common loss    F: the backup's node is not in the task's fault set; task / task
+ *                   a common group; link i / j
+ * 13 common loss    F: the backup's group is not in the task's fault set; task / task
  * 14 overlap        G: copies on one node do not overlap, except two backups
- *                   whose fault sets have no common node; lower / higher task
+ *                   whose fault sets have no common group; lower / higher task
  */
 uint64_t seqopchi_judge(const uint8_t *job, size_t job_len,
                         const uint8_t *plan, size_t plan_len);
@@ -199,15 +204,16 @@ uint64_t seqopchi_replay(const uint8_t *job, size_t job_len,
                          const uint8_t *plan, size_t plan_len,
                          uint8_t *out, size_t out_len);
 
-/* The run of plan with node lost at moment; node and moment are any numbers.
+/* The run of plan with every node of group lost at moment; group and moment are any
+ * numbers. In a job of versions 1 to 3 group is the number of a node.
  * As seqopchi_replay, and between the faults of the plan and 17:
- *   18  node is not below P; node / 0
+ *   18  no node of the job is in group; group / 0
  * For a passed plan and a result of 0 each task has exactly one finished copy,
  * with a finish from 1 to its deadline.
  */
 uint64_t seqopchi_replay_loss(const uint8_t *job, size_t job_len,
                               const uint8_t *plan, size_t plan_len,
-                              uint32_t node, uint32_t moment,
+                              uint32_t group, uint32_t moment,
                               uint8_t *out, size_t out_len);
 
 /* The fault sets of the tasks of plan, as seqopchi_judge has them, also where it would
@@ -217,7 +223,8 @@ uint64_t seqopchi_replay_loss(const uint8_t *job, size_t job_len,
  *   1 to 4, 6, 7  the faults of the plan
  *   17            out_len is below 4 N; 4 N / 0
  *   0             the first 4 N bytes of out are a number for each task, its fault
- *                 set: bit q (worth 2 to the power q) is 1 if node q is in it, else 0
+ *                 set: bit q (worth 2 to the power q) is 1 if group q is in it, else
+ *                 0. In a job of versions 1 to 3 that is node q
  */
 uint64_t seqopchi_fault_sets(const uint8_t *job, size_t job_len,
                              const uint8_t *plan, size_t plan_len,

@@ -1,6 +1,7 @@
 /* ask and commit: where one more task would go, and booking it there. */
 #include "commands.h"
 
+#include "groups.h"
 #include "layout.h"
 #include "refusal.h"
 
@@ -47,11 +48,17 @@ static uint32_t finish(const struct request *r, uint32_t node, uint32_t start)
 static void add_places(struct buffer *b, const struct request *r,
                        const uint32_t places[4])
 {
-    buffer_print(b, "primary on node %u from %u to %u\n", (unsigned)places[0],
-                 (unsigned)places[1], (unsigned)finish(r, places[0], places[1]));
-    buffer_print(b, "backup on node %u from %u to %u, deadline %u\n",
-                 (unsigned)places[2], (unsigned)places[3],
-                 (unsigned)finish(r, places[2], places[3]),
+    static const char *const copy[] = { "primary on ", "\nbackup on " };
+
+    for (int i = 0; i < 2; i++) {
+        uint32_t node = places[2 * i], start = places[2 * i + 1];
+
+        buffer_print(b, "%s", copy[i]);
+        add_node_name(b, &r->in.job, node);
+        buffer_print(b, " from %u to %u", (unsigned)start,
+                     (unsigned)finish(r, node, start));
+    }
+    buffer_print(b, ", deadline %u\n",
                  (unsigned)number_at(&r->task.file, new_deadline_at(&r->in.job)));
 }
 

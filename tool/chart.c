@@ -6,7 +6,7 @@
 
 double x_of(const struct chart *c, uint32_t tick)
 {
-    return LEFT + (c->right - LEFT) * tick / c->last;
+    return c->left + (c->right - c->left) * tick / c->last;
 }
 
 double bar_top(const struct chart *c, size_t copy)
@@ -17,7 +17,7 @@ double bar_top(const struct chart *c, size_t copy)
 
 bool is_lost(const struct chart *c, uint32_t node)
 {
-    return c->o->lose && c->o->node == node;
+    return c->o->lose && job_group(&c->in->job, node) == c->o->group;
 }
 
 uint32_t outcome(const struct chart *c, const struct copy *copy)
@@ -98,6 +98,14 @@ static void set_axis(struct chart *c)
     c->last = (end + c->step - 1) / c->step * c->step;
 }
 
+/* Left of the plot stand the names of the nodes, with their groups where the job says
+ * them, and left of these the brackets. */
+static void set_left(struct chart *c)
+{
+    c->label = EDGE + BRACKET * place_brackets(c);
+    c->left = c->label + NAME + (job_has(&c->in->job, GROUP) ? GROUP_NAME : 0);
+}
+
 /* Wide enough to label the shortest copy, within reason. */
 static void set_width(struct chart *c)
 {
@@ -112,7 +120,7 @@ static void set_width(struct chart *c)
         plot = PLOT_LEAST;
     if (plot > PLOT_MOST)
         plot = PLOT_MOST;
-    c->right = LEFT + plot;
+    c->right = c->left + plot;
 }
 
 static void set_lanes(struct chart *c, double top)
@@ -153,11 +161,13 @@ static void draw(struct chart *c)
 {
     set_rows(c);
     set_axis(c);
+    set_left(c);
     set_width(c);
     set_lanes(c, HEAD + place_flags(c));
     draw_styles(c, c->lane[c->nodes] + AXIS + LEGEND_ROW);
     draw_title(c);
     draw_lanes(c);
+    draw_brackets(c);
     draw_loss(c);
     draw_poles(c);
     draw_copies(c);

@@ -8,7 +8,8 @@
 
 /* Measures in pixels. */
 enum {
-    LEFT = 92, RIGHT = 28, HEAD = 66, FLAG_ROW = 18,
+    EDGE = 16, BRACKET = 18, NAME = 76, GROUP_AT = 70, GROUP_NAME = 60,
+    RIGHT = 28, HEAD = 66, FLAG_ROW = 18,
     ROW = 28, BAR = 22, LANE_EDGE = 6, AXIS = 40, LEGEND_ROW = 28,
     PLOT_LEAST = 880, PLOT_MOST = 1880, BAR_LEAST = 26
 };
@@ -18,6 +19,12 @@ struct flag {
     uint32_t tick;
     double from, to;
     unsigned row;
+};
+
+/* A supply group of several nodes; its column is counted from the names leftward. */
+struct bracket {
+    uint32_t group, nodes;
+    unsigned column;
 };
 
 struct chart {
@@ -33,7 +40,10 @@ struct chart {
     size_t flag_count;
     uint32_t nodes, tasks;
     uint32_t step, last; /* of the axis; the last tick is a multiple of step */
-    double right;        /* edge of the plot */
+    double label;        /* where the names of the nodes begin */
+    double left, right;  /* edges of the plot */
+    struct bracket brackets[SEQOPCHI_MAX_NODES / 2];
+    size_t bracket_count;
     struct buffer svg;
 };
 
@@ -51,6 +61,12 @@ double place_flags(struct chart *c);
 bool has_ready_marks(const struct chart *c);
 /* The mark of the tick at x, over a height from top on. */
 void draw_ready_mark(struct chart *c, double x, double top, double height);
+
+/* Finds a place for each bracket; gives the columns that they take together. */
+unsigned place_brackets(struct chart *c);
+void draw_brackets(struct chart *c);
+/* The sign of one; gives the place of its meaning. */
+double draw_supply_sign(struct chart *c, double x, double top);
 
 void draw_styles(struct chart *c, double height);
 void draw_title(struct chart *c);

@@ -2,6 +2,7 @@
  * is dashed and a cut is crossed, so that a print in grey tells them apart. */
 #include "chart.h"
 
+#include "groups.h"
 #include "refusal.h"
 
 #include <string.h>
@@ -35,6 +36,10 @@ static const char ready_style[] =
     ".ready{fill:#1f7a3a;stroke:#fff}\n"
     ".wait{stroke:#1f7a3a;stroke-width:2;fill:none}\n";
 
+/* The same of brackets. */
+static const char supply_style[] =
+    ".supply{stroke:#444;stroke-width:2;stroke-linejoin:round;fill:none}\n";
+
 static const char patterns[] =
     "</style>\n"
     "<defs>\n"
@@ -56,6 +61,8 @@ void draw_styles(struct chart *c, double height)
     buffer_add(&c->svg, styles, sizeof styles - 1);
     if (has_ready_marks(c))
         buffer_add(&c->svg, ready_style, sizeof ready_style - 1);
+    if (c->bracket_count > 0)
+        buffer_add(&c->svg, supply_style, sizeof supply_style - 1);
     buffer_add(&c->svg, patterns, sizeof patterns - 1);
     buffer_print(&c->svg, "<rect width=\"%.0f\" height=\"%.0f\" fill=\"#fff\"/>\n",
                  wide, height);
@@ -85,11 +92,9 @@ static void add_subtitle(struct chart *c)
 
 static void add_title(struct chart *c)
 {
+    buffer_print(&c->svg, c->o->lose ? "Run with " : "Plan");
     if (c->o->lose)
-        buffer_print(&c->svg, "Run with node %u lost at tick %u",
-                     (unsigned)c->o->node, (unsigned)c->o->tick);
-    else
-        buffer_print(&c->svg, "Plan");
+        add_loss(&c->svg, &c->in->job, c->o->group, c->o->tick);
     buffer_print(&c->svg, ": %u tasks on %u nodes", (unsigned)c->tasks,
                  (unsigned)c->nodes);
 }
@@ -119,27 +124,39 @@ static void draw_shared(struct chart *c, const struct copy *a, const struct copy
                  x_of(c, to) - x_of(c, from), bottom - top - 2);
 }
 
-static void draw_node_line(struct chart *c, double y, const char *what, uint32_t number)
+static void draw_node_line(struct chart *c, double x, double y, const char *what,
+                           uint32_t number)
 {
-    buffer_print(&c->svg, "<text class=\"small\" x=\"16\" y=\"%.1f\">%s %u</text>\n", y,
-                 what, (unsigned)number);
+    buffer_print(&c->svg, "<text class=\"small\" x=\"%.0f\" y=\"%.1f\">%s %u</text>\n",
+                 x, y, what, (unsigned)number);
 }
 
-/* A node's label: two lines, or three where the job has send times. */
+/* A node's label: two lines, or three where the job has send times; two by two words
+ * where it has groups. */
 static void draw_node(struct chart *c, uint32_t node, double middle)
 {
     const struct file *job = &c->in->job;
-    bool sends = SEND < node_fields_in(job_version(job));
-    double y = sends ? middle - 8 : middle - 1;
+    bool sends = job_has(job, SEND), beside = job_has(job, GROUP);
+    double x = c->label, y = sends && !beside ? middle - 8 : middle - 1;
 
-    buffer_print(&c->svg, "<text class=\"node\" x=\"16\" y=\"%.1f\">node %u</text>\n",
-                 y, (unsigned)node);
+    buffer_print(&c->svg, "<text class=\"node\" x=\"%.0f\" y=\"%.1f\">node %u</text>\n",
+                 x, y, (unsigned)node);
     if (is_lost(c, node))
-        draw_node_line(c, y + 14, "lost at", c->o->tick);
+        draw_node_line(c, x, y + 14, "lost at", c->o->tick);
     else
-        draw_node_line(c, y + 14, "detect", job_node(job, node, DETECT));
+        draw_node_line(c, x, y + 14, "detect", job_node(job, node, DETECT));
     if (sends)
-        draw_node_line(c, y + 26, "send", job_node(job, node, SEND));
+        draw_node_line(c, beside ? x + GROUP_AT : x, beside ? y + 14 : y + 26, "send",
+                       job_node(job, node, SEND));
+    if (beside)
+        draw_node_line(c, x + GROUP_AT, y, "group", job_node(job, node, GROUP));
+}
+
+/* The line between two lanes. */
+static void draw_rule(struct chart *c, double y)
+{
+    buffer_print(&c->svg, "<path class=\"rule\" d=\"M%.0f %.1fH%.1f\"/>\n", c->label, y,
+                 c->right);
 }
 
 static void draw_lane(struct chart *c, uint32_t node)
@@ -147,10 +164,11 @@ static void draw_lane(struct chart *c, uint32_t node)
     double top = c->lane[node], bottom = c->lane[node + 1];
 
     if (node % 2 == 0)
-        buffer_print(&c->svg, "<rect class=\"lane\" x=\"%d\" y=\"%.1f\" width=\"%.1f\" "
-                     "height=\"%.1f\"/>\n", LEFT, top, c->right - LEFT, bottom - top);
+        buffer_print(&c->svg, "<rect class=\"lane\" x=\"%.0f\" y=\"%.1f\" "
+                     "width=\"%.1f\" height=\"%.1f\"/>\n", c->left, top,
+                     c->right - c->left, bottom - top);
     draw_node(c, node, (top + bottom) / 2);
-    buffer_print(&c->svg, "<path class=\"rule\" d=\"M16 %.1fH%.1f\"/>\n", bottom, c->right);
+    draw_rule(c, bottom);
 }
 
 static void draw_axis(struct chart *c)
@@ -162,14 +180,13 @@ static void draw_axis(struct chart *c)
                      "<text class=\"small\" x=\"%.1f\" y=\"%.1f\" "
                      "text-anchor=\"middle\">%u</text>\n", x_of(c, tick), c->lane[0],
                      bottom + 4, x_of(c, tick), bottom + 17, (unsigned)tick);
-    buffer_print(&c->svg, "<text class=\"small\" x=\"%d\" y=\"%.1f\" "
-                 "text-anchor=\"end\">tick</text>\n", LEFT - 12, bottom + 17);
+    buffer_print(&c->svg, "<text class=\"small\" x=\"%.0f\" y=\"%.1f\" "
+                 "text-anchor=\"end\">tick</text>\n", c->left - 12, bottom + 17);
 }
 
 void draw_lanes(struct chart *c)
 {
-    buffer_print(&c->svg, "<path class=\"rule\" d=\"M16 %.1fH%.1f\"/>\n",
-                 c->lane[0], c->right);
+    draw_rule(c, c->lane[0]);
     for (uint32_t node = 0; node < c->nodes; node++)
         draw_lane(c, node);
     for (size_t i = 0; i < c->count; i++)
@@ -178,19 +195,22 @@ void draw_lanes(struct chart *c)
     draw_axis(c);
 }
 
-/* Behind the loss the lane is gone; a loss behind the axis leaves no mark. */
-void draw_loss(struct chart *c)
+/* Behind the loss the lane is gone. */
+static void draw_lost_lane(struct chart *c, uint32_t node)
 {
-    double x, top, bottom;
+    double x = x_of(c, c->o->tick), top = c->lane[node], bottom = c->lane[node + 1];
 
-    if (!c->o->lose || c->o->tick > c->last)
-        return;
-    x = x_of(c, c->o->tick);
-    top = c->lane[c->o->node];
-    bottom = c->lane[c->o->node + 1];
     buffer_print(&c->svg, "<rect class=\"gone\" x=\"%.1f\" y=\"%.1f\" width=\"%.1f\" "
                  "height=\"%.1f\"/>\n<path class=\"loss\" d=\"M%.1f %.1fV%.1f\"/>\n",
                  x, top + 1, c->right - x, bottom - top - 2, x, top, bottom);
+}
+
+/* In every lane of the group; a loss behind the axis leaves no mark. */
+void draw_loss(struct chart *c)
+{
+    for (uint32_t node = 0; node < c->nodes; node++)
+        if (is_lost(c, node) && c->o->tick <= c->last)
+            draw_lost_lane(c, node);
 }
 
 static void draw_bar(struct chart *c, const char *class, double from, double to,
@@ -234,9 +254,10 @@ static void add_hint(struct chart *c, const struct copy *copy)
 {
     const struct file *job = &c->in->job;
 
-    buffer_print(&c->svg, "<title>%s of task %u: node %u, %u to %u",
-                 copy->backup ? "backup" : "primary", (unsigned)copy->task,
-                 (unsigned)copy->node, (unsigned)copy->start, (unsigned)copy->finish);
+    buffer_print(&c->svg, "<title>%s of task %u: ", copy->backup ? "backup" : "primary",
+                 (unsigned)copy->task);
+    add_node_name(&c->svg, job, copy->node);
+    buffer_print(&c->svg, ", %u to %u", (unsigned)copy->start, (unsigned)copy->finish);
     if (!copy->backup && has_ready(job_version(job)))
         buffer_print(&c->svg, ", ready %u", (unsigned)job_ready(job, copy->task));
     buffer_print(&c->svg, ", deadline %u", (unsigned)job_deadline(job, copy->task));
@@ -309,8 +330,10 @@ static double draw_entry(struct chart *c, double x, const char *class, const cha
 
 void draw_legend(struct chart *c)
 {
-    double x = LEFT;
+    double x = c->left;
 
+    if (c->bracket_count > 0)
+        draw_meaning(c, draw_supply_sign(c, EDGE + 1, legend_top(c)), "one supply");
     if (!c->o->lose) {
         x = draw_entry(c, x, "primary", "primary");
         x = draw_entry(c, x, "backup", "backup");

@@ -91,7 +91,7 @@ static struct flag flag_at_edge(const struct chart *c, uint32_t tick)
 
     while (is_taken(c, &f)) {
         f.from -= 4;
-        if (f.from < LEFT) {
+        if (f.from < c->left) {
             f.from = c->right - wide;
             f.row++;
         }
@@ -173,6 +173,7 @@ void draw_flags(struct chart *c)
         add_label(&c->svg, c, f->tick);
         buffer_print(&c->svg, "</text>\n");
     }
-    buffer_print(&c->svg, "<text class=\"small\" x=\"%d\" y=\"%.1f\" "
-                 "text-anchor=\"end\">deadlines</text>\n", LEFT - 12, c->lane[0] - 10);
+    buffer_print(&c->svg, "<text class=\"small\" x=\"%.0f\" y=\"%.1f\" "
+                 "text-anchor=\"end\">deadlines</text>\n", c->left - 12,
+                 c->lane[0] - 10);
 }

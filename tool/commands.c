@@ -1,6 +1,7 @@
 /* The commands that are little more than a call of the library. */
 #include "commands.h"
 
+#include "groups.h"
 #include "layout.h"
 #include "refusal.h"
 
@@ -141,7 +142,7 @@ int replayed(struct file *run, const struct input *in, const struct options *o)
     run->data = allocated(run->length);
     if (o->lose)
         result = seqopchi_replay_loss(job->data, job->length, plan->data,
-                                      plan->length, o->node, o->tick,
+                                      plan->length, o->group, o->tick,
                                       run->data, run->length);
     else
         result = seqopchi_replay(job->data, job->length, plan->data,
@@ -183,6 +184,21 @@ static void add_run(struct buffer *b, const struct file *job, const struct file 
     }
 }
 
+/* The first line: which loss, and the nodes that it takes where groups are said. */
+static void add_cause(struct buffer *b, const struct file *job, const struct options *o)
+{
+    if (!o->lose)
+        buffer_print(b, "no loss");
+    else
+        add_loss(b, job, o->group, o->tick);
+    if (o->lose && job_has(job, GROUP)) {
+        buffer_print(b, " (");
+        add_nodes_of_group(b, job, o->group);
+        buffer_print(b, ")");
+    }
+    buffer_print(b, "\n");
+}
+
 int run_replay(const struct options *o)
 {
     struct input in;
@@ -194,11 +210,7 @@ int run_replay(const struct options *o)
         return status;
     status = replayed(&run, &in, o);
     if (status == 0) {
-        if (o->lose)
-            buffer_print(&text, "node %u lost at tick %u\n", (unsigned)o->node,
-                         (unsigned)o->tick);
-        else
-            buffer_print(&text, "no loss\n");
+        add_cause(&text, &in.job, o);
         add_run(&text, &in.job, &run);
         file_free(&run);
         status = finish_output(o, &text);

@@ -12,7 +12,7 @@ struct options {
     const char *second_output; /* of a command that has two, else null */
     const char *job;           /* null where none was given */
     bool lose;
-    uint32_t node, tick;
+    uint32_t group, tick; /* of the loss */
 };
 
 int run_plan(const struct options *o);

@@ -9,6 +9,7 @@
 const struct node_field node_fields[NODE_FIELDS] = {
     [DETECT] = { "detect", "detect time", 1, SEQOPCHI_MAX_DETECT },
     [SEND] = { "send", "send time", 3, SEQOPCHI_MAX_SEND },
+    [GROUP] = { "group", "supply group", 4, SEQOPCHI_MAX_GROUP },
 };
 
 /* The test is no verdict on the file: it keeps this program inside its memory
@@ -57,6 +58,11 @@ size_t node_at(const struct file *job, uint32_t node)
     return 8 + SEQOPCHI_NODE_BYTES(job_version(job)) * (size_t)node;
 }
 
+bool job_has(const struct file *job, int field)
+{
+    return field < node_fields_in(job_version(job));
+}
+
 uint32_t job_node(const struct file *job, uint32_t node, int field)
 {
     return number_at(job, node_at(job, node) + 4 * (size_t)field);
@@ -64,7 +70,12 @@ uint32_t job_node(const struct file *job, uint32_t node, int field)
 
 uint32_t job_send(const struct file *job, uint32_t node)
 {
-    return SEND < node_fields_in(job_version(job)) ? job_node(job, node, SEND) : 0;
+    return job_has(job, SEND) ? job_node(job, node, SEND) : 0;
+}
+
+uint32_t job_group(const struct file *job, uint32_t node)
+{
+    return job_has(job, GROUP) ? job_node(job, node, GROUP) : node;
 }
 
 size_t task_count_at(const struct file *job)

@@ -17,7 +17,7 @@ struct link {
 };
 
 /* The numbers of a node's entry, in file order. */
-enum { DETECT, SEND, NODE_FIELDS };
+enum { DETECT, SEND, GROUP, NODE_FIELDS };
 
 struct node_field {
     const char *word, *name; /* in a text and in a message */
@@ -38,9 +38,11 @@ int node_fields_in(uint32_t version);
 
 uint32_t job_version(const struct file *job);
 uint32_t job_nodes(const struct file *job);
-/* Of a field that the version has. */
+/* Whether the version has a node field, and the number of one that it has. */
+bool job_has(const struct file *job, int field);
 uint32_t job_node(const struct file *job, uint32_t node, int field);
 uint32_t job_send(const struct file *job, uint32_t node); /* 0 where there is none */
+uint32_t job_group(const struct file *job, uint32_t node); /* node where there is none */
 uint32_t job_tasks(const struct file *job);
 uint32_t job_ready(const struct file *job, uint32_t task); /* 0 where there is none */
 uint32_t job_deadline(const struct file *job, uint32_t task);

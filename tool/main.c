@@ -8,7 +8,7 @@
 #include <stdio.h>
 #include <string.h>
 
-#define TOOL_VERSION "1.4"
+#define TOOL_VERSION "1.5"
 
 enum { OUTPUT = 1, OUTPUT_DUE = 2, LOSS = 4, JOB = 8, TWO_OUTPUTS = 16 };
 
@@ -28,10 +28,11 @@ static const struct command commands[] = {
       "judge a plan for its job",
       "Prints 'passed' if the plan keeps every rule.\n" },
     { "replay", run_replay, 2, 2, OUTPUT | LOSS,
-      "replay JOB PLAN [--lose NODE@TICK]",
-      "run a plan, with or without the loss of a node",
-      "Prints what becomes of each copy, without a loss or with the loss of\n"
-      "node NODE at tick TICK. The plan need not pass the judge.\n" },
+      "replay JOB PLAN [--lose GROUP@TICK]",
+      "run a plan, with or without a loss",
+      "Prints what becomes of each copy, without a loss or with the loss of all\n"
+      "nodes of supply group GROUP at tick TICK. Up to job version 3 each node is a\n"
+      "group by itself, and GROUP is its number. The plan need not pass the judge.\n" },
     { "list", run_list, 1, 1, OUTPUT, "list JOB",
       "plan a job and print the listing",
       "Prints a line for each task: task, primary node, start, backup node,\n"
@@ -43,10 +44,11 @@ static const struct command commands[] = {
     { "trace", run_trace, 2, 2, OUTPUT, "trace JOB PLAN",
       "tell how the fault sets come about, task by task",
       "Prints the judge's answer; then, for each task in turn, the links that arrive\n"
-      "at it and its fault set. The set begins with the node of the task's primary. A\n"
-      "link is strong if the result of the sender's backup is there by the primary's\n"
-      "start, else weak; a weak link brings the sender's set. The plan need not pass\n"
-      "the judge.\n" },
+      "at it and its fault set, the supply groups whose loss can stop its primary (up\n"
+      "to job version 3: the nodes). The set begins with the group of the primary's\n"
+      "node. A link is strong if the result of the sender's backup is there by the\n"
+      "primary's start, else weak; a weak link brings the sender's set. The plan need\n"
+      "not pass the judge.\n" },
     { "pack", run_pack, 1, 1, OUTPUT | OUTPUT_DUE | JOB,
       "pack TEXT -o FILE [--job JOB]",
       "make a job, plan or task file from text",
@@ -59,10 +61,12 @@ static const struct command commands[] = {
       "Prints the text form of the last file that is given; that of a job in its\n"
       "own version. With a task the plan must pass the judge.\n" },
     { "chart", run_chart, 2, 2, OUTPUT | OUTPUT_DUE | LOSS,
-      "chart JOB PLAN [--lose NODE@TICK] -o FILE.svg",
-      "draw a plan, or its run with the loss of a node",
-      "Draws a lane for each node with its copies, deadlines and ready times. With\n"
-      "--lose it draws the run: what was finished, cut and not started.\n" },
+      "chart JOB PLAN [--lose GROUP@TICK] -o FILE.svg",
+      "draw a plan, or its run with a loss",
+      "Draws a lane for each node with its copies, deadlines and ready times, and a\n"
+      "bracket for the nodes on one supply. With --lose it draws the run: what was\n"
+      "finished, cut and not started. GROUP is a supply group; up to job version 3 it\n"
+      "is the number of a node.\n" },
     { "ask", run_ask, 3, 3, OUTPUT, "ask JOB PLAN TASK",
       "ask where one more task would go",
       "Prints the places that the planner would give one more task beside a plan\n"
@@ -130,13 +134,13 @@ static int wrong_usage(const struct command *c, const char *what, const char *wo
     return 2;
 }
 
-/* NODE@TICK, each any 4-byte number: the library says whether there is the node. */
+/* GROUP@TICK, each any 4-byte number: the library says whether there is the group. */
 static bool parse_loss(struct options *o, const char *word)
 {
     const char *sign = strchr(word, '@');
 
     o->lose = true;
-    return sign && parse_number(word, (size_t)(sign - word), &o->node)
+    return sign && parse_number(word, (size_t)(sign - word), &o->group)
         && parse_number(sign + 1, strlen(sign + 1), &o->tick);
 }
 
@@ -170,7 +174,7 @@ static int take_option(const struct command *c, struct options *o, char **words)
     else if (is_job)
         o->job = words[1];
     else if (!parse_loss(o, words[1]))
-        return wrong_usage(c, "expected NODE@TICK in base ten, found", words[1]);
+        return wrong_usage(c, "expected GROUP@TICK in base ten, found", words[1]);
     return 0;
 }
 

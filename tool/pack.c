@@ -39,7 +39,7 @@ static void pack_node_field(struct text *t, struct job_text *job,
     }
 }
 
-/* node K detect TICKS send TICKS */
+/* node K detect TICKS send TICKS group GROUP */
 static void pack_node(struct text *t, struct job_text *job)
 {
     take_index(t, "node", job->nodes.entries);

@@ -2,6 +2,7 @@
 #include "refusal.h"
 
 #include "fields.h"
+#include "groups.h"
 #include "layout.h"
 
 #include <stdio.h>
@@ -167,11 +168,14 @@ static void add_fault(struct buffer *b, uint64_t result, const struct given *g)
         add_link_order(b, g->job, at);
 }
 
-/* The refusals that name tasks, by number: the first task stands behind head, the
- * second behind middle. */
-static const struct {
+/* The refusals that name tasks: the first task stands behind head, the second behind
+ * middle. */
+struct rule_words {
     const char *head, *middle, *tail;
-} rule_words[] = {
+};
+
+/* By number. */
+static const struct rule_words rule_words[] = {
     [SEQOPCHI_REFUSED_SAME_NODE] =
     { "task ", " has its primary and its backup on one node", NULL },
     [SEQOPCHI_REFUSED_EARLY] =
@@ -200,27 +204,50 @@ static const struct {
       "again", NULL },
 };
 
+/* Of jobs that say the group of each node, where others mean a node by it. */
+static const struct rule_words group_words[] = {
+    [SEQOPCHI_REFUSED_SAME_NODE] =
+    { "task ", " has its primary and its backup in one supply group", NULL },
+    [SEQOPCHI_REFUSED_COMMON_LOSS] =
+    { "the loss of one supply group can stop both copies of task ", "", NULL },
+};
+
 static bool names_tasks(unsigned number)
 {
     return number < sizeof rule_words / sizeof rule_words[0]
         && rule_words[number].head;
 }
 
-static void add_broken_rule(struct buffer *b, uint64_t result)
+static const struct rule_words *words_of(unsigned rule, const struct file *job)
 {
-    unsigned rule = seqopchi_number(result);
-
-    buffer_print(b, "%s%u%s", rule_words[rule].head,
-                 (unsigned)seqopchi_first(result), rule_words[rule].middle);
-    if (rule_words[rule].tail)
-        buffer_print(b, "%u%s", (unsigned)seqopchi_second(result),
-                     rule_words[rule].tail);
+    if (rule < sizeof group_words / sizeof group_words[0] && group_words[rule].head
+        && job_has(job, GROUP))
+        return &group_words[rule];
+    return &rule_words[rule];
 }
 
-static void add_no_such_node(struct buffer *b, const struct file *job, uint32_t node)
+static void add_broken_rule(struct buffer *b, uint64_t result, const struct file *job)
 {
-    buffer_print(b, "node %u is none of the job, whose nodes are 0 to %u",
-                 (unsigned)node, (unsigned)job_nodes(job) - 1);
+    const struct rule_words *words = words_of(seqopchi_number(result), job);
+
+    buffer_print(b, "%s%u%s", words->head, (unsigned)seqopchi_first(result),
+                 words->middle);
+    if (words->tail)
+        buffer_print(b, "%u%s", (unsigned)seqopchi_second(result), words->tail);
+}
+
+static void add_no_such_node(struct buffer *b, const struct file *job, uint32_t group)
+{
+    uint32_t groups = groups_of_job(job);
+
+    if (job_has(job, GROUP)) {
+        buffer_print(b, "no node of the job is in group %u; its %s ", (unsigned)group,
+                     has_several(groups) ? "groups are" : "only group is");
+        add_set(b, groups, ", ");
+    } else {
+        buffer_print(b, "node %u is none of the job, whose nodes are 0 to %u",
+                     (unsigned)group, (unsigned)job_nodes(job) - 1);
+    }
 }
 
 static void add_full(struct buffer *b, const struct given *g, uint32_t number)
@@ -243,7 +270,7 @@ static void add_refusal(struct buffer *b, uint64_t result, const struct given *g
     if (number < SEQOPCHI_REFUSED_SAME_NODE)
         add_fault(b, result, g);
     else if (names_tasks(number))
-        add_broken_rule(b, result);
+        add_broken_rule(b, result, g->job);
     else if (number == SEQOPCHI_REFUSED_NO_SUCH_NODE)
         add_no_such_node(b, g->job, first);
     else if (number == SEQOPCHI_REFUSED_FULL)

@@ -1,6 +1,7 @@
 /* show: a job, and a plan with the judge's answer, as readable text. */
 #include "commands.h"
 
+#include "groups.h"
 #include "layout.h"
 #include "refusal.h"
 
@@ -120,8 +121,9 @@ static void add_lanes(struct buffer *b, const struct input *in)
     uint32_t nodes = job_nodes(&in->job);
 
     for (uint32_t node = 0; node < nodes; node++) {
-        buffer_print(b, "\nnode %u%s\n", (unsigned)node,
-                     next < count && copies[next].node == node ? "" : ": empty");
+        buffer_print(b, "\n");
+        add_node_name(b, &in->job, node);
+        buffer_print(b, next < count && copies[next].node == node ? "\n" : ": empty\n");
         for (; next < count && copies[next].node == node; next++)
             buffer_print(b, "  %7u to %7u  %s of task %u\n",
                          (unsigned)copies[next].start,

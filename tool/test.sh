@@ -80,6 +80,7 @@ write_bytes() { # write_bytes FILE BYTE..: bytes in hexadecimal
 lines() { printf '%s\n' "$@"; }
 
 . "$home/tool/test_sending.sh"
+. "$home/tool/test_groups.sh"
 . "$home/tool/test_asking.sh"
 . "$home/tool/test_trace.sh"
 
@@ -116,9 +117,9 @@ task  primary      backup        finish  deadline
     check 'show tells the lanes' has out '        9 to      12  backup  of task 1'
 }
 
-maximum_job() { # maximum_job VERSION READY SEND: a job of the greatest counts, as text
+maximum_job() { # maximum_job VERSION READY SEND: a job of the greatest counts, as text; nodes 0 and 1 are in one group
     echo "job $1"
-    for ((n = 0; n < 16; n++)); do echo "node $n detect 1000 $3"; done
+    for ((n = 0; n < 16; n++)); do echo "node $n detect 1000 ${3/%group/group $((n == 1 ? 0 : n))}"; done
     for ((t = 0; t < 64; t++)); do
         echo "task $t $2 deadline 1000000 run 1 2 3 4 5 6 7 8 9 10 11 12 13 14 15 1000000"
     done
@@ -165,11 +166,13 @@ round_trip_tests() {
     maximum_job 1 '' '' >max.txt
     maximum_job 2 'ready 1000' '' >max2.txt
     maximum_job 3 'ready 1000' 'send 1000' >max3.txt
+    maximum_job 4 'ready 1000' 'send 1000 group' >max4.txt
     block 1 "$home/tool/TEXT.md" >described.txt
     block 2 "$home/tool/TEXT.md" >described2.txt
     block 3 "$home/tool/TEXT.md" >described3.txt
-    block 4 "$home/tool/TEXT.md" >described-plan.txt
-    for text in described.txt described2.txt described3.txt; do
+    block 4 "$home/tool/TEXT.md" >described4.txt
+    block 5 "$home/tool/TEXT.md" >described-plan.txt
+    for text in described.txt described2.txt described3.txt described4.txt; do
         round_trip $text described-plan.txt
         round_trip $text
     done
@@ -177,12 +180,14 @@ round_trip_tests() {
     round_trip "$home/examples/lessons.txt"
     round_trip "$home/examples/slow-links.txt"
     round_trip "$home/examples/slow-cards.txt"
+    round_trip "$home/examples/drawer.txt"
     round_trip "$home/examples/oscilloscope.txt"
     round_trip "$home/examples/oscilloscope.txt" "$home/examples/oscilloscope-refused.txt"
     round_trip "$home/examples/oscilloscope.txt" "$home/examples/oscilloscope-passed.txt"
     longest_job max.txt 10576
     longest_job max2.txt 10832
     longest_job max3.txt 10896
+    longest_job max4.txt 10960
     printf 'job\t1\r\n\r\n  node 0 detect 1#x\nnode 1 detect 1\ntask 0 deadline 9 run 007 -' >odd.txt
     good pack odd.txt -o odd.job
     good unpack odd.job
@@ -204,7 +209,7 @@ example_tests() {
     check 'the chart of the run' cmp -s out "$home/examples/oscilloscope-loss.svg"
     good chart o.job refused.plan -o -
     check 'the chart tells the refusal' has out 'refused 13 (common loss)'
-    check 'a group for each copy' test "$(grep -c '^<g>' out)" -eq 22
+    check 'a part for each copy' test "$(grep -c '^<g>' out)" -eq 22
     good chart o.job o.plan --lose 3@4000000000 -o -
     check 'a loss after the end' has out 'Primaries finished: 11. Backups finished: 0. Copies cut: 0.'
     good pack "$home/examples/slow-links.txt" -o s.job
@@ -214,6 +219,10 @@ example_tests() {
     good plan l.job -o l.plan
     good chart l.job l.plan -o -
     check 'the chart of the lessons' cmp -s out "$home/examples/lessons-plan.svg"
+    good pack "$home/examples/drawer.txt" -o w.job
+    good plan w.job -o w.plan
+    good chart w.job w.plan --lose 5@8 -o -
+    check 'the chart of the drawer' cmp -s out "$home/examples/drawer-loss.svg"
 }
 
 # --- refusals, one of each number -------------------------------------------------
@@ -233,7 +242,7 @@ plan_of() { # plan_of PLACES PLACES: two tasks, each: node start node start
 
 job_fault_tests() {
     job_text 's/^job 1/job 0/'
-    refuses "2 (version): line 2 of 'x.txt', the version (byte 0 when packed), is 0; it must be from 1 to 3" pack x.txt -o x
+    refuses "2 (version): line 2 of 'x.txt', the version (byte 0 when packed), is 0; it must be from 1 to 4" pack x.txt -o x
     job_text '/^node/d; s/run.*/run/'
     refuses "3 (count): 'x.txt', the node count (byte 4 when packed), is 0; it must be from 2 to 16" pack x.txt -o x
     job_text 's/node 1 detect 1/node 1 detect 1001/'
@@ -271,7 +280,7 @@ plan_fault_tests() {
     refuses "1 (short): 'x' has fewer than 4 bytes left at byte 20, for the backup start of task 0" replay j x
     bytes_of j
     write_bytes x 07 "${bytes[@]:1}"
-    refuses "2 (version): byte 0 of 'x', the version, is 7; it must be from 1 to 3" judge x p
+    refuses "2 (version): byte 0 of 'x', the version, is 7; it must be from 1 to 4" judge x p
     bytes_of p
     write_bytes x 02 "${bytes[@]:1}"
     refuses "2 (version): byte 0 of 'x', the version, is 2; it must be 1" judge j x
@@ -448,6 +457,7 @@ job_fields() { # job_fields VERSION
     for node in 0 1 2; do
         echo "the detect time of node $node"
         [[ $1 -lt 3 ]] || echo "the send time of node $node"
+        [[ $1 -lt 4 ]] || echo "the supply group of node $node"
     done
     echo 'the task count'
     for task in 0 1; do
@@ -477,10 +487,10 @@ ready_file_tests() {
     later 2 12
     cut_job_tests 1 j
     cut_job_tests 2 r
-    for version in 0 4 5 258 4294967295; do
+    for version in 0 5 6 258 4294967295; do
         bytes_of r
         write_bytes x $(printf '%02x ' $((version & 255)) $((version >> 8 & 255)) $((version >> 16 & 255)) $((version >> 24))) "${bytes[@]:4}"
-        refuses "2 (version): byte 0 of 'x', the version, is $version; it must be from 1 to 3" show x
+        refuses "2 (version): byte 0 of 'x', the version, is $version; it must be from 1 to 4" show x
     done
     write_bytes x 01 "${bytes[@]:1}"
     refuses "4 (value): byte 60 of 'x', the from of link 0, is 3; it must be from 0 to 1" unpack x
@@ -506,8 +516,8 @@ ready_text_tests() {
     wrong "'x.txt', line 9: expected the ready time, found '-5'" pack x.txt -o y
     later_text 0 0 's/ready 0 \(deadline 30\) run 3/\1 ready 0 run 3/'
     wrong "'x.txt', line 9: expected 'ready', found 'deadline'" pack x.txt -o y
-    later_text 0 0 's/^job 2/job 4/; s/^node .*/& words of another version/'
-    refuses "2 (version): line 2 of 'x.txt', the version (byte 0 when packed), is 4; it must be from 1 to 3" pack x.txt -o y
+    later_text 0 0 's/^job 2/job 5/; s/^node .*/& words of another version/'
+    refuses "2 (version): line 2 of 'x.txt', the version (byte 0 when packed), is 5; it must be from 1 to 4" pack x.txt -o y
     check 'no file after a refusal' test ! -e y
     lines 'plan 2' 'task 0 primary 0 at 0 backup 1 at 5' 'task 1 primary 0 at 4 backup 1 at 9' >x.txt
     refuses "2 (version): line 1 of 'x.txt', the version (byte 0 when packed), is 2; it must be 1" pack x.txt --job r -o y
@@ -558,6 +568,8 @@ damage_tests() {
     damaged_job r r.plan 5
     slow 3 0 1000
     damaged_job s r.plan 5
+    grouped 1 0 1
+    damaged_job g r.plan 5
     good pack "$home/examples/one-more-fit.txt" --job o.job -o d.task
     damaged_plan o.job o.plan
 }
@@ -610,7 +622,9 @@ text_damage_tests() {
     later_text 2 12
     cp x.txt later.txt
     slow_text 3 0 1000
-    for source in "$home/examples/sample.txt" later.txt x.txt; do
+    cp x.txt slow.txt
+    grouped_text 5 0 15
+    for source in "$home/examples/sample.txt" later.txt slow.txt x.txt; do
         bytes_of "$source"
         for ((position = 0; position < ${#bytes[@]}; position += 3)); do
             write_bytes d.txt "${bytes[@]:0:position}"
@@ -622,9 +636,11 @@ text_damage_tests() {
     for text in '' '#' 'job' 'job one' 'plan 1' 'job 4294967296' 'job 1 1' 'Job 1' 'plan 1\ntask 1' 'job 1\nnode 1 detect 1' \
         'job 1\nnode 0 detect' 'job 1\ntask 0 deadline 1 run\nnode 0 detect 1' 'job 1\nlink 0 to 1 delay -1' 'job 1\n\0' \
         'plan 1\ntask 0 primary 0 at 0 backup 1 at 5 6' 'job 1\nnode 0 detect 1\nnode 1 detect 1\ntask 0 deadline 1 run 1' \
-        'job 2' 'job 3' 'job 4' 'job 2\ntask 0 ready' 'job 2\ntask 0 ready 1 ready 1' 'job 2\ntask 0 ready - deadline 1 run' \
+        'job 2' 'job 3' 'job 4' 'job 5' 'job 2\ntask 0 ready' 'job 2\ntask 0 ready 1 ready 1' 'job 2\ntask 0 ready - deadline 1 run' \
         'job 1\ntask 0 ready 0 deadline 1 run' 'job 3\nnode 0 detect 1' 'job 3\nnode 0 detect 1 send' \
-        'job 3\nnode 0 detect 1 send 1 send 1' 'job 2\nnode 0 detect 1 send 0'; do
+        'job 3\nnode 0 detect 1 send 1 send 1' 'job 2\nnode 0 detect 1 send 0' 'job 4\nnode 0 detect 1 send 1' \
+        'job 4\nnode 0 detect 1 send 1 group' 'job 4\nnode 0 detect 1 send 1 group 1 group 1' 'job 3\nnode 0 detect 1 send 0 group 0' \
+        'job 4\nnode 0 detect 1 group 1 send 1' 'job 4\nnode 0 detect 1 send 1 group 4294967296'; do
         printf "$text" >d.txt
         damaged_text
         check "no text: $text" test $status -ne 0 -o "$text" = 'plan 1'
@@ -665,11 +681,11 @@ usage_tests() {
     wrong 'standard input can be only one' pack - --job - -o x
     wrong '--job goes with a plan or a task' pack "$home/examples/sample.txt" --job j -o x
     for loss in '' 0 @ 0@ @3 0@3x 0@-1 ' 0@3' 0@3@4 4294967296@0 0@4294967296; do
-        wrong 'expected NODE@TICK' replay j p --lose "$loss"
+        wrong 'expected GROUP@TICK' replay j p --lose "$loss"
     done
     good --help
     good --version
-    check 'version' is out 'seqopchi 1.4, for job files of versions 1 to 3 and plan files of version 1'
+    check 'version' is out 'seqopchi 1.5, for job files of versions 1 to 4 and plan files of version 1'
     for command in plan judge replay list show trace pack unpack chart ask commit; do
         check "help lists $command" has <("$tool" --help) "  $command "
         good "$command" --help
@@ -683,7 +699,7 @@ input_tests() {
     wrong "cannot read 'none'" judge j none
     wrong "cannot read 'none'" pack "$home/examples/oscilloscope-passed.txt" --job none -o y
     wrong 'longer than' pack /dev/zero -o y
-    refuses "2 (version): byte 0 of '/dev/zero', the version, is 0; it must be from 1 to 3" list /dev/zero
+    refuses "2 (version): byte 0 of '/dev/zero', the version, is 0; it must be from 1 to 4" list /dev/zero
     "$tool" list - <j >out 2>err
     check 'a job from standard input' is out "$("$tool" list j)"
     "$tool" judge j - <p >out 2>err
@@ -777,8 +793,8 @@ week_step() {
 }
 
 for group in sample round_trip example job_fault plan_fault rule ready ready_chart ready_file ready_text \
-    send send_chart send_file send_text ask commit stale full task_fault task_file task_text trace trace_file usage ask_usage trace_usage \
-    input output commit_output week demo; do
+    send send_chart send_file send_text group group_chart group_file group_text ask commit stale full task_fault task_file task_text \
+    trace trace_file usage ask_usage trace_usage input output commit_output week demo; do
     "${group}_tests"
 done
 ASAN_OPTIONS+=:detect_leaks=0 # half the time; leaks were looked for up to here

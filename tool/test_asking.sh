@@ -1,5 +1,5 @@
 # Tests of ask, commit and the files of one more task; read by test.sh, whose functions it uses.
-# The files j and p are sample J and its plan (0 0 1 5, 0 4 1 9), r and s are sample J in versions 2 and 3.
+# The files j and p are sample J and its plan (0 0 1 5, 0 4 1 9), r, s and g are sample J in versions 2 to 4.
 
 # What ask and commit answer to the usual task: two ticks on each node, behind task 1.
 usual=('task deadline 30 run 2 2 2' 'link from 1 delay 1')
@@ -96,6 +96,32 @@ ask_beside_tests() { # beside copies that the planner did not place, ready times
     offers 2 11 13 1 14 16 s p n.txt
     slow 2 0 1000
     offers 2 10 12 1 13 15 s p n.txt
+    ask_group_tests
+}
+
+ask_group_tests() { # not beside its primary's group, which is said
+    task_text 'task ready 0 deadline 30 run 2 2 2' 'link from 1 delay 1'
+    grouped 5 3 3
+    good ask g p n.txt
+    check 'the places with their groups' is out 'task 2 would find room; nothing is booked
+primary on node 0 (group 5) from 7 to 9
+backup on node 1 (group 3) from 12 to 14, deadline 30
+place primary 0 at 7 backup 1 at 12'
+    sed -i 's/run 2 2 2/run 2 2 5/' n.txt
+    plan_of '0 0 2 5' '0 4 2 9'
+    grouped 5 5 3
+    good ask g x.plan n.txt
+    check 'no backup in the drawer of its primary' has out '
+primary on node 0 (group 5) from 7 to 9
+backup on node 2 (group 3) from 12 to 17, deadline 30
+'
+    grouped 5 0 3
+    good ask g x.plan n.txt
+    check 'one on the other supply' has out '
+backup on node 1 (group 0) from 13 to 15, deadline 30
+'
+    grouped 5 5 5
+    refuses '8 (same node): task 0 has its primary and its backup in one supply group' ask g p n.txt
 }
 
 # --- committing -------------------------------------------------------------------
@@ -172,16 +198,26 @@ node 2 detect 1 send 1000
 task 0 ready 0 '
     good plan y.job -o x.plan
     check "the planner's plan of it" cmp -s x.plan y.plan
+    grouped 15 3 15
+    books g p n.txt
+    good unpack y.job
+    check 'version 4, groups' has out 'job 4
+node 0 detect 1 send 0 group 15
+node 1 detect 1 send 0 group 3
+node 2 detect 1 send 0 group 15
+task 0 ready 0 '
+    good plan y.job -o x.plan
+    check "the planner's plan of it" cmp -s x.plan y.plan
     longest_commit_tests
 }
 
 longest_commit_tests() { # the longest job without its last task, then that task
-    sed '/^task 63 /d; / to 63 /d' max3.txt >x.txt
+    sed '/^task 63 /d; / to 63 /d' max4.txt >x.txt
     good pack x.txt -o x.job
     good plan x.job -o x.plan
-    sed -n 's/^task 63 /task /p; s/^link \([0-9]*\) to 63 /link from \1 /p' max3.txt >n.txt
+    sed -n 's/^task 63 /task /p; s/^link \([0-9]*\) to 63 /link from \1 /p' max4.txt >n.txt
     books x.job x.plan n.txt
-    good pack max3.txt -o t.job
+    good pack max4.txt -o t.job
     check 'the longest job, by commit' cmp -s y.job t.job
     good plan t.job -o x.plan
     check "the planner's plan of it" cmp -s x.plan y.plan
@@ -253,6 +289,7 @@ stale_tests() {
     sed -i 's/ready 8/ready 7/' n.txt
     books r p n.txt
     stale_send_tests
+    stale_group_tests
     task_text "${usual[@]}" 'place primary 0 at 7 backup 2 at 13'
     books j p n.txt
     task_text "${usual[@]}" "$usual_place"
@@ -269,6 +306,17 @@ stale_send_tests() { # a result that is still on its way
     breaks 12 long3.job s '0 at 7 backup 2 at 14' 'task ready 0 deadline 30 run 2 2 2'
     sed -i 's/at 14/at 15/' n.txt
     books s p n.txt
+}
+
+stale_group_tests() { # a backup that would go dark with its primary, or with one that feeds it
+    local task='task ready 0 deadline 30 run 2 2 2'
+    grouped 5 3 5
+    task_text "$task" "${usual[1]}"
+    good commit g p n.txt -o long4.job long4.plan
+    breaks 13 long4.job g '1 at 8 backup 2 at 20' "$task"
+    breaks 8 long4.job g '0 at 7 backup 2 at 13' "$task"
+    grouped 5 3 3
+    books g p n.txt
 }
 
 wide_job() { # wide_job TASKS LINKS: into w.job and w.plan, of two nodes
@@ -494,11 +542,13 @@ task_text_tests() {
     good pack described2.txt -o d2.job
     good plan d2.job -o d2.plan
     good pack described3.txt -o d3.job
-    block 5 "$home/tool/TEXT.md" >described-task.txt
-    block 6 "$home/tool/TEXT.md" >described-booking.txt
+    good pack described4.txt -o d4.job
+    block 6 "$home/tool/TEXT.md" >described-task.txt
+    block 7 "$home/tool/TEXT.md" >described-booking.txt
     task_round_trip described-task.txt d.job d.plan
     task_round_trip described-booking.txt d2.job d2.plan
     task_round_trip described-booking.txt d3.job d.plan
+    task_round_trip described-booking.txt d4.job d.plan
     books d.job d.plan described-task.txt
     books d2.job d2.plan described-booking.txt
     task_round_trip "$home/examples/one-more-fit.txt" o.job o.plan
@@ -508,7 +558,7 @@ task_text_tests() {
     task_text 'task ready 0 deadline 30 run 2 2 2' 'link from 0 delay 1' 'link from 1 delay 0' 'place primary 0 at 30 backup 1 at 3'
     task_round_trip n.txt r p
     check 'the text of a booking, stale or not' cmp -s t.txt n.txt
-    good pack max3.txt -o t.job
+    good pack max4.txt -o t.job
     good plan t.job -o t.plan
     { lines 'task ready 1 deadline 1 run - 1 1 1 1 1 1 1 1 1 1 1 1 1 1 1'; links_from 64; lines 'place primary 1 at 1 backup 2 at 2'; } >n.txt
     task_round_trip n.txt t.job t.plan
@@ -671,6 +721,8 @@ task_damage_tests() {
     damaged_tasks r 5
     slow 3 0 1000
     damaged_tasks s 17
+    grouped 5 3 5
+    damaged_tasks g 19
     task_text_damage_tests
 }
 

@@ -11,28 +11,28 @@ slow() { # slow SEND SEND SEND [SED]: into the file s
     good pack x.txt -o s
 }
 
-lists() { # lists PLACES PLACES: what list prints of s
-    good list s
-    check "the places $*" cmp -s out <(lines 'task primary at backup at' "0 $1" "1 $2")
+lists() { # lists JOB PLACES PLACES: what list prints
+    good list "$1"
+    check "the places $*" cmp -s out <(lines 'task primary at backup at' "0 $2" "1 $3")
 }
 
 send_tests() {
     slow 0 0 0
-    lists '0 0 1 5' '0 4 1 9'
+    lists s '0 0 1 5' '0 4 1 9'
     slow 3 1000 1000
-    lists '0 0 1 5' '0 4 1 9'
+    lists s '0 0 1 5' '0 4 1 9'
     good unpack s
     check 'the text of version 3' cmp -s out <(sed 's/ *#.*//; /^$/d' x.txt)
     slow 4 0 0
-    lists '0 0 1 5' '0 4 1 10'
+    lists s '0 0 1 5' '0 4 1 10'
     slow 1 1000 1000 's/run 3 3 3/run - 3 3/'
-    lists '0 0 1 5' '2 7 1 11'
+    lists s '0 0 1 5' '2 7 1 11'
     good plan s -o s.plan
     good judge s s.plan
     good unpack s s.plan
     check 'a plan stays in version 1' has out 'plan 1'
     slow 0 0 1000 's/ready 0\(.*\) 3 3 3/ready 11\1 4 - 3/'
-    lists '0 0 1 5' '2 11 0 15'
+    lists s '0 0 1 5' '2 11 0 15'
     slow 0 1 0 's/ready 0\(.*\) 3 3 3/ready 11\1 4 - 3/'
     refuses '16 (no backup): no node has a place for the backup of task 1' plan s -o y # the link is weak now
     slow 30 0 0 's/run 3 3 3/run - 3 3/'
@@ -110,8 +110,8 @@ send_file_tests() {
     bytes_of s
     write_bytes x 02 "${bytes[@]:1}"
     refuses "3 (count): byte 20 of 'x', the task count, is 0; it must be from 1 to 64" unpack x
-    write_bytes x 04 "${bytes[@]:1}"
-    refuses "2 (version): byte 0 of 'x', the version, is 4; it must be from 1 to 3" unpack x
+    write_bytes x 05 "${bytes[@]:1}"
+    refuses "2 (version): byte 0 of 'x', the version, is 5; it must be from 1 to 4" unpack x
     write_bytes x "${bytes[@]:0:29}" 04 "${bytes[@]:30}"
     refuses "4 (value): byte 28 of 'x', the send time of node 2, is 1256; it must be from 0 to 1000" unpack x
     later 2 12

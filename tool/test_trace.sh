@@ -1,17 +1,17 @@
 # Tests of trace: how fault sets come about; read by test.sh, whose functions it uses.
-# The files j and p are sample J and its plan (0 0 1 5, 0 4 1 9), r and s are sample J in versions 2 and 3.
+# The files j and p are sample J and its plan (0 0 1 5, 0 4 1 9), r, s and g are sample J in versions 2 to 4.
 
 traces() { # traces JOB PLAN: what is printed can be followed
     good trace "$1" "$2"
     check "followed: trace $1 $2" followed
 }
 
-# Whether in out each set is the primary's node and what the weak links bring, the tasks stand in turn, and
-# the links at the task that they arrive at, rising, with ticks that fit.
+# Whether in out each set is the primary's group, or its node where no group is said, and what the weak links
+# bring, the tasks stand in turn, and the links at the task that they arrive at, rising, with ticks that fit.
 followed() {
     awk '
-        /^task / { task = $2 + 0; bad += task != tasks++; node = $6; from = -1; split("", has) }
-        /^  begins with / { bad += $3 + 0 != node; has[node] = 1 }
+        /^task / { task = $2 + 0; bad += task != tasks++; own = $7 == "(group" ? $8 + 0 : $6; from = -1; split("", has) }
+        /^  begins with / { bad += $3 + 0 != own; has[own] = 1 }
         /^  link / {
             there = $16 + 0; start = $21 + 0; brings = ""
             bad += $4 != task || $2 <= from || $2 >= task
@@ -30,9 +30,10 @@ followed() {
         END { exit bad > 0 || tasks == 0 }' out
 }
 
-arrives() { # arrives LINE..: what is printed of task 1 behind its primary's node
+arrives() { # arrives LINE..: what is printed of task 1 behind its primary's node or group
     read_file out
-    check "$1" test "${content##*"its primary's node"$'\n'}" = "$(lines "$@")"
+    content=${content##*"its primary's "}
+    check "$1" test "${content#*$'\n'}" = "$(lines "$@")"
 }
 
 trace_tests() {
@@ -66,8 +67,13 @@ task 2: primary on node 0 from 8 to 9, backup on node 1 from 10 to 11
     trace_chain_tests
     trace_edge_tests
     trace_send_tests
+    trace_group_tests
     trace_far_tests
-    for text in "$home"/examples/{sample,lessons,slow-links,slow-cards,oscilloscope}.txt; do
+    trace_example_tests
+}
+
+trace_example_tests() {
+    for text in "$home"/examples/{sample,lessons,slow-links,slow-cards,drawer,oscilloscope}.txt; do
         good pack "$text" -o x.job
         good plan x.job -o x.plan
         traces x.job x.plan
@@ -158,6 +164,29 @@ trace_send_tests() { # the sender's time, none on one node, and none in older ve
         '  fault set of task 1: 1'
 }
 
+trace_group_tests() { # the group of the primary's node, and of the senders
+    plan_of '0 0 2 5' '1 6 2 10'
+    grouped 15 15 3
+    traces g x.plan
+    check 'the trace of two nodes in one group' is out "plan, by the judge: passed
+task 0: primary on node 0 (group 15) from 0 to 4, backup on node 2 (group 3) from 5 to 9
+  begins with 15, its primary's group
+  no link arrives
+  fault set of task 0: 15
+task 1: primary on node 1 (group 15) from 6 to 9, backup on node 2 (group 3) from 10 to 13
+  begins with 15, its primary's group
+  link 0 to 1    weak by 5         backup 0 ends at 9, is there at 11; primary 1 starts at 6; brings 15
+  fault set of task 1: 15"
+    grouped 15 0 3
+    traces g x.plan
+    arrives '  link 0 to 1    weak by 5         backup 0 ends at 9, is there at 11; primary 1 starts at 6; brings 15' \
+        '  fault set of task 1: 0 15'
+    plan_of '0 0 2 5' '1 11 2 15'
+    traces g x.plan
+    arrives '  link 0 to 1    strong by 0       backup 0 ends at 9, is there at 11; primary 1 starts at 11' \
+        '  fault set of task 1: 0'
+}
+
 trace_far_tests() { # the latest arrival that a plan can have, and the earliest
     slow 0 1000 0 's/run 4 4 4/run 4 1000000 1/; s/delay 2/delay 1000000/'
     plan_of '0 0 1 1000000' '2 0 1 0'
@@ -200,12 +229,14 @@ trace_file_tests() {
     trace_cut j x p < <(job_fields 1)
     trace_cut r x p < <(job_fields 2)
     trace_cut s x p < <(job_fields 3)
+    grouped 0 5 0
+    trace_cut g x p < <(job_fields 4)
     trace_cut p j x < <(plan_fields)
     bytes_of s
-    write_bytes x 04 "${bytes[@]:1}"
-    refuses "2 (version): byte 0 of 'x', the version, is 4; it must be from 1 to 3" trace x p
+    write_bytes x 05 "${bytes[@]:1}"
+    refuses "2 (version): byte 0 of 'x', the version, is 5; it must be from 1 to 4" trace x p
     head -c 20 p >x.plan
-    refuses "2 (version): byte 0 of 'x', the version, is 4; it must be from 1 to 3" trace x x.plan
+    refuses "2 (version): byte 0 of 'x', the version, is 5; it must be from 1 to 4" trace x x.plan
     refuses "1 (short): 'x.plan' has fewer than 4 bytes left at byte 20, for the backup start of task 0" trace s x.plan
     refuses "3 (count): byte 4 of 'o.plan', the task count, is 11; it must be 2" trace j o.plan
     plan_of '0 0 1 5' '3 4 1 9'
@@ -229,7 +260,7 @@ trace_usage_tests() {
     wrong "cannot read 'none': No such file" trace j none
     wrong "cannot read '.'" trace j .
     wrong "cannot write 'none/x': No such file" trace j p -o none/x
-    refuses "2 (version): byte 0 of '/dev/zero', the version, is 0; it must be from 1 to 3" trace /dev/zero p
+    refuses "2 (version): byte 0 of '/dev/zero', the version, is 0; it must be from 1 to 4" trace /dev/zero p
     refuses "2 (version): byte 0 of '/dev/zero', the version, is 0; it must be 1" trace j /dev/zero
     good trace j p -o x.trace
     check 'nothing printed' is out ''
@@ -253,6 +284,8 @@ trace_damage_tests() { # what still reads well can be followed
     plan_of '0 0 1 5' '2 12 0 16'
     damaged_traces s 7 d x.plan
     damaged_traces x.plan 5 s d
+    grouped 3 1 0
+    damaged_traces g 7 d x.plan
     damaged_traces o.job 31 d o.plan
     damaged_traces o.plan 13 o.job d
 }

@@ -1,6 +1,7 @@
 /* trace: the fault set of each task, behind the links that arrive at it. */
 #include "commands.h"
 
+#include "groups.h"
 #include "layout.h"
 #include "refusal.h"
 
@@ -9,14 +10,6 @@
 static uint32_t set_of(const struct file *sets, uint32_t task)
 {
     return number_at(sets, 4 * (size_t)task);
-}
-
-/* Every bit that the library sets is told, be it a node of the job or not. */
-static void add_set(struct buffer *b, uint32_t set)
-{
-    for (unsigned node = 0; node < 32; node++)
-        if (set >> node & 1)
-            buffer_print(b, " %u", node);
 }
 
 /* When the result of a copy is on a node, in a type that holds any three numbers of
@@ -58,8 +51,8 @@ static void add_link(struct buffer *b, const struct input *in, const struct link
                  (unsigned long long)there, (unsigned)link->to,
                  (unsigned)primary.start);
     if (there > primary.start) {
-        buffer_print(b, "; brings");
-        add_set(b, set_of(sets, link->from));
+        buffer_print(b, "; brings ");
+        add_set(b, set_of(sets, link->from), " ");
     }
     buffer_print(b, "\n");
 }
@@ -81,20 +74,28 @@ static void add_arriving(struct buffer *b, const struct input *in, uint32_t task
         buffer_print(b, "  no link arrives\n");
 }
 
+static void add_copy(struct buffer *b, const struct file *job, const struct copy *copy)
+{
+    buffer_print(b, "%s on ", copy->backup ? ", backup" : "primary");
+    add_node_name(b, job, copy->node);
+    buffer_print(b, " from %u to %u", (unsigned)copy->start, (unsigned)copy->finish);
+}
+
 static void add_task(struct buffer *b, const struct input *in, uint32_t task,
                      const struct file *sets)
 {
-    struct copy p = plan_copy(&in->job, &in->plan, task, 0);
-    struct copy q = plan_copy(&in->job, &in->plan, task, 1);
+    struct copy primary = plan_copy(&in->job, &in->plan, task, 0);
+    struct copy backup = plan_copy(&in->job, &in->plan, task, 1);
 
-    buffer_print(b, "task %u: primary on node %u from %u to %u, "
-                 "backup on node %u from %u to %u\n", (unsigned)task,
-                 (unsigned)p.node, (unsigned)p.start, (unsigned)p.finish,
-                 (unsigned)q.node, (unsigned)q.start, (unsigned)q.finish);
-    buffer_print(b, "  begins with %u, its primary's node\n", (unsigned)p.node);
+    buffer_print(b, "task %u: ", (unsigned)task);
+    add_copy(b, &in->job, &primary);
+    add_copy(b, &in->job, &backup);
+    buffer_print(b, "\n  begins with %u, its primary's %s\n",
+                 (unsigned)job_group(&in->job, primary.node),
+                 job_has(&in->job, GROUP) ? "group" : "node");
     add_arriving(b, in, task, sets);
-    buffer_print(b, "  fault set of task %u:", (unsigned)task);
-    add_set(b, set_of(sets, task));
+    buffer_print(b, "  fault set of task %u: ", (unsigned)task);
+    add_set(b, set_of(sets, task), " ");
     buffer_print(b, "\n");
 }
 

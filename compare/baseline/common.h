@@ -6,17 +6,16 @@
 
 #include <stddef.h>
 #include <stdint.h>
-#include <string.h>
 
 enum { MAX_NODES = 16, MAX_TASKS = 64, MAX_LINKS = 512 };
 
 /* A task that is asked for is read behind the job's own. */
 enum { SLOTS = MAX_TASKS + 1 };
 
-enum { MAX_DETECT = 1000, MAX_SEND = 1000, MAX_TIME = 1000000 };
+enum { MAX_DETECT = 1000, MAX_SEND = 1000, MAX_GROUP = 15, MAX_TIME = 1000000 };
 
 /* The newest version of a job. A plan has version 1 only. */
-enum { NEWEST = 3 };
+enum { NEWEST = 4 };
 
 enum refusal {
     SHORT = 1, VERSION, COUNT, VALUE, LINK_ORDER, TAIL, UNABLE, SAME_NODE, EARLY, LATE,
@@ -34,6 +33,8 @@ struct job {
     uint32_t deadline[SLOTS];
     uint32_t run[SLOTS][MAX_NODES];
     struct link link[MAX_LINKS];
+    /* Behind the rest: where it pushed the links back, the plain replay took half as long again. */
+    uint32_t group[MAX_NODES];
 };
 
 /* A copy holds its node from start up to, but not including, finish. At `sent` its result has left
@@ -79,16 +80,25 @@ static uint64_t read_within(struct file *file, uint32_t low, uint32_t high, enum
     return 0;
 }
 
-/* Send times are there from version 3 on. */
+/* Send times are there from version 3 on, groups from version 4 on; before, each node is its
+   own. */
+static uint64_t read_node(struct file *file, struct job *job, uint32_t node)
+{
+    uint64_t refused = read_within(file, 0, MAX_DETECT, VALUE, &job->detect[node]);
+    job->send[node] = 0;
+    job->group[node] = node;
+    if (!refused && job->version >= 3)
+        refused = read_within(file, 0, MAX_SEND, VALUE, &job->send[node]);
+    if (!refused && job->version >= 4)
+        refused = read_within(file, 0, MAX_GROUP, VALUE, &job->group[node]);
+    return refused;
+}
+
 static uint64_t read_nodes(struct file *file, struct job *job)
 {
     uint64_t refused = read_within(file, 2, MAX_NODES, COUNT, &job->nodes);
-    memset(job->send, 0, sizeof job->send);
-    for (uint32_t node = 0; !refused && node < job->nodes; node++) {
-        refused = read_within(file, 0, MAX_DETECT, VALUE, &job->detect[node]);
-        if (!refused && job->version >= 3)
-            refused = read_within(file, 0, MAX_SEND, VALUE, &job->send[node]);
-    }
+    for (uint32_t node = 0; !refused && node < job->nodes; node++)
+        refused = read_node(file, job, node);
     return refused;
 }
 
@@ -254,10 +264,21 @@ static int after_detection(const struct job *job, const struct copy *primary,
     return primary->finish + job->detect[primary->node] <= backup->start;
 }
 
+/* The bit of a copy's group in a fault set (request (vi)). */
+static uint32_t group_bit(const struct job *job, const struct copy *copy)
+{
+    return UINT32_C(1) << job->group[copy->node];
+}
+
+static int one_group(const struct job *job, const struct copy *a, const struct copy *b)
+{
+    return job->group[a->node] == job->group[b->node];
+}
+
 static uint64_t judge_tasks(const struct job *job, const struct layout *plan)
 {
     for (uint32_t task = 0; task < job->tasks; task++)
-        if (plan->primary[task].node == plan->backup[task].node)
+        if (one_group(job, &plan->primary[task], &plan->backup[task]))
             return refuse(SAME_NODE, task, task);
     for (uint32_t task = 0; task < job->tasks; task++)
         if (!after_ready(job, task, &plan->primary[task]))
@@ -290,7 +311,7 @@ static uint64_t judge_nodes(const struct job *job, const struct layout *plan,
                             const uint32_t *faults)
 {
     for (uint32_t task = 0; task < job->tasks; task++)
-        if (faults[task] >> plan->backup[task].node & 1)
+        if (faults[task] & group_bit(job, &plan->backup[task]))
             return refuse(COMMON_LOSS, task, task);
     for (uint32_t a = 0; a < job->tasks; a++)
         for (uint32_t b = a + 1; b < job->tasks; b++)
@@ -363,7 +384,7 @@ static void put_plan(const struct layout *plan, uint32_t tasks, uint8_t *out)
 
 static size_t job_bytes(const struct job *job)
 {
-    size_t node = job->version >= 3 ? 8 : 4;
+    size_t node = job->version >= 4 ? 12 : job->version >= 3 ? 8 : 4;
     size_t task = (job->version >= 2 ? 8 : 4) + 4 * (size_t)job->nodes;
     return 16 + node * job->nodes + task * job->tasks + 12 * (size_t)job->links;
 }
@@ -381,6 +402,8 @@ static void put_job(const struct job *job, uint8_t *out)
         out = put_next(out, job->detect[node]);
         if (job->version >= 3)
             out = put_next(out, job->send[node]);
+        if (job->version >= 4)
+            out = put_next(out, job->group[node]);
     }
     out = put_next(out, job->tasks);
     for (uint32_t task = 0; task < job->tasks; task++) {
@@ -413,13 +436,24 @@ static uint64_t start_plan(struct file job_file, size_t out_length, struct job *
 
 enum state { NOT_STARTED, CUT, FINISHED };
 
-struct loss { int happens; uint32_t node, moment; };
+struct loss { int happens; uint32_t group, moment; };
 
 struct run {
     struct job job;
     struct layout plan;
-    struct loss loss;
+    /* The nodes that are lost, as bits, and when. */
+    uint32_t lost, moment;
 };
+
+/* The nodes of the lost group, none if there is no loss. */
+static uint32_t lost_nodes(const struct job *job, const struct loss *loss)
+{
+    uint32_t lost = 0;
+    for (uint32_t node = 0; loss->happens && node < job->nodes; node++)
+        if (job->group[node] == loss->group)
+            lost |= UINT32_C(1) << node;
+    return lost;
+}
 
 /* Job and plan, then 18, then 17. */
 static uint64_t start_run(struct file job_file, struct file plan_file, struct loss loss,
@@ -428,22 +462,25 @@ static uint64_t start_run(struct file job_file, struct file plan_file, struct lo
     uint64_t refused = read_job(job_file, &run->job);
     if (!refused)
         refused = read_plan(plan_file, &run->job, &run->plan);
-    if (!refused && loss.happens && loss.node >= run->job.nodes)
-        refused = refuse(NO_SUCH_NODE, loss.node, 0);
-    if (!refused && out_length < 12 * (size_t)run->job.tasks)
-        refused = refuse(SHORT_BUFFER, 12 * run->job.tasks, 0);
-    run->loss = loss;
-    return refused;
+    if (refused)
+        return refused;
+    run->lost = lost_nodes(&run->job, &loss);
+    run->moment = loss.moment;
+    if (loss.happens && !run->lost)
+        return refuse(NO_SUCH_NODE, loss.group, 0);
+    if (out_length < 12 * (size_t)run->job.tasks)
+        return refuse(SHORT_BUFFER, 12 * run->job.tasks, 0);
+    return 0;
 }
 
 /* What becomes of a copy whose inputs are there. */
-static enum state run_copy(const struct copy *copy, const struct loss *loss)
+static enum state run_copy(const struct run *run, const struct copy *copy)
 {
-    if (!loss->happens || copy->node != loss->node)
+    if (!(run->lost >> copy->node & 1))
         return FINISHED;
-    if (copy->start >= loss->moment)
+    if (copy->start >= run->moment)
         return NOT_STARTED;
-    return copy->finish <= loss->moment ? FINISHED : CUT;
+    return copy->finish <= run->moment ? FINISHED : CUT;
 }
 
 /* Writes a task's row and answers its finished copy, NULL if there is none. */
@@ -600,10 +637,10 @@ static uint64_t fault_sets(struct file job_file, struct file plan_file, uint8_t 
                       out_length);                                                                \
     }                                                                                             \
     uint64_t side##_replay_loss(const uint8_t *job, size_t job_length, const uint8_t *plan,       \
-                                size_t plan_length, uint32_t node, uint32_t moment, uint8_t *out, \
-                                size_t out_length)                                                \
+                                size_t plan_length, uint32_t group, uint32_t moment,              \
+                                uint8_t *out, size_t out_length)                                  \
     {                                                                                             \
-        struct loss loss = { 1, node, moment };                                                   \
+        struct loss loss = { 1, group, moment };                                                  \
         return replay(open_bytes(job, job_length), open_bytes(plan, plan_length), loss, out,      \
                       out_length);                                                                \
     }

@@ -9,7 +9,7 @@ static inline void find_fault_sets(const struct job *job, const struct layout *p
                                    uint32_t *faults)
 {
     for (uint32_t task = 0; task < job->tasks; task++)
-        faults[task] = UINT32_C(1) << plan->primary[task].node;
+        faults[task] = group_bit(job, &plan->primary[task]);
     for (uint32_t i = 0; i < job->links; i++) {
         const struct link *link = &job->link[i];
         if (!in_time(&plan->backup[link->from], link->delay, &plan->primary[link->to]))
@@ -64,7 +64,8 @@ static void avoid_clashes(const struct held *draft, uint32_t task, uint32_t faul
     } while (moved);
 }
 
-/* The place with the earliest finish, then the lowest node, among the nodes not barred. */
+/* The place with the earliest finish, then the lowest node, among the nodes whose group is not
+   barred. */
 static int find_place(const struct held *draft, uint32_t task, const uint32_t *ready,
                       uint32_t barred, uint32_t faults, struct copy *best)
 {
@@ -72,7 +73,7 @@ static int find_place(const struct held *draft, uint32_t task, const uint32_t *r
     for (uint32_t node = 0; node < draft->job.nodes; node++) {
         uint32_t run = draft->job.run[task][node];
         struct copy copy = { node, ready[node], ready[node] + run, 0 };
-        if (run == 0 || barred >> node & 1)
+        if (run == 0 || (barred & group_bit(&draft->job, &copy)))
             continue;
         avoid_clashes(draft, task, faults, &copy);
         if (copy.finish < best->finish)
@@ -110,7 +111,7 @@ static int place_primary(struct held *draft, uint32_t task)
 static uint32_t fault_set(const struct held *draft, uint32_t task)
 {
     const struct copy *primary = &draft->plan.primary[task];
-    uint32_t faults = UINT32_C(1) << primary->node;
+    uint32_t faults = group_bit(&draft->job, primary);
     for (uint32_t i = 0; i < draft->job.links; i++) {
         const struct link *link = &draft->job.link[i];
         if (link->to == task && !in_time(&draft->plan.backup[link->from], link->delay, primary))
@@ -119,7 +120,7 @@ static uint32_t fault_set(const struct held *draft, uint32_t task)
     return faults;
 }
 
-/* The fault set holds the primary's node, so rule F bars what rule A bars. */
+/* The fault set holds the primary's group, so rule F bars what rule A bars. */
 static int place_backup(struct held *draft, uint32_t task)
 {
     const struct copy *primary = &draft->plan.primary[task];
@@ -178,10 +179,10 @@ static const struct copy *run_task(const struct run *run, const struct copy *con
     const struct copy *primary = &run->plan.primary[task], *backup = &run->plan.backup[task];
     enum state first = NOT_STARTED, second = NOT_STARTED;
     if (after_ready(&run->job, task, primary) && inputs_there(run, finished, task, primary))
-        first = run_copy(primary, &run->loss);
+        first = run_copy(run, primary);
     if (first != FINISHED && after_detection(&run->job, primary, backup)
         && inputs_there(run, finished, task, backup))
-        second = run_copy(backup, &run->loss);
+        second = run_copy(run, backup);
     return put_outcome(run, task, first, second, row);
 }
 

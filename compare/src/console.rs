@@ -5,7 +5,7 @@ use crate::bookings::{read_booking, read_description};
 use crate::fault_sets;
 use crate::files::{read_job, read_plan, row_numbers, write_job, write_plan, Job, Plan};
 use crate::planner;
-use crate::refusal::{Refusal, NO_SUCH_NODE, SHORT_BUFFER};
+use crate::refusal::{code_of, Refusal, NO_SUCH_NODE, SHORT_BUFFER};
 use crate::replay::{self, Loss};
 use crate::rules;
 
@@ -27,7 +27,7 @@ pub struct Console {
     pub ask: Ask,
     /// Job, plan and booking; the longer job and the longer plan.
     pub commit: Commit,
-    /// Job and plan; bit q is for node q.
+    /// Job and plan; bit q is for group q.
     pub fault_sets: fn(&[u8], &[u8], &mut [u8]) -> u64,
 }
 
@@ -47,12 +47,8 @@ pub fn sets_bytes(tasks: usize) -> usize {
     4 * tasks
 }
 
-fn code(answer: Result<(), Refusal>) -> u64 {
-    answer.map_or_else(Refusal::code, |()| 0)
-}
-
 fn judge(job: &[u8], plan: &[u8]) -> u64 {
-    code(passed(job, plan).map(|_| ()))
+    code_of(passed(job, plan).map(|_| ()))
 }
 
 /// Both files, if the judge passes them.
@@ -64,7 +60,7 @@ fn passed(job: &[u8], plan: &[u8]) -> Result<(Job, Plan), Refusal> {
 }
 
 fn plan(job: &[u8], out: &mut [u8]) -> u64 {
-    code(try_plan(job, out))
+    code_of(try_plan(job, out))
 }
 
 fn try_plan(job: &[u8], out: &mut [u8]) -> Result<(), Refusal> {
@@ -75,14 +71,15 @@ fn try_plan(job: &[u8], out: &mut [u8]) -> Result<(), Refusal> {
 }
 
 fn replay(job: &[u8], plan: &[u8], loss: Option<Loss>, out: &mut [u8]) -> u64 {
-    code(try_replay(job, plan, loss, out))
+    code_of(try_replay(job, plan, loss, out))
 }
 
 fn try_replay(job: &[u8], plan: &[u8], loss: Option<Loss>, out: &mut [u8]) -> Result<(), Refusal> {
     let job = read_job(job)?;
     let plan = read_plan(&job, plan)?;
-    if let Some(loss) = loss.filter(|loss| loss.node as usize >= job.nodes.len()) {
-        return Err(Refusal::at(NO_SUCH_NODE, u64::from(loss.node)));
+    let lost = loss.map(|loss| u64::from(loss.group));
+    if let Some(group) = lost.filter(|group| !job.groups().contains(group)) {
+        return Err(Refusal::at(NO_SUCH_NODE, group));
     }
     room_for(replay_bytes(job.tasks.len()), out)?;
     let outcomes = replay::replay(&job, &plan, loss);
@@ -93,7 +90,7 @@ fn try_replay(job: &[u8], plan: &[u8], loss: Option<Loss>, out: &mut [u8]) -> Re
 }
 
 fn ask(job: &[u8], plan: &[u8], task: &[u8], places: &mut Places) -> u64 {
-    code(try_ask(job, plan, task).map(|answer| *places = answer))
+    code_of(try_ask(job, plan, task).map(|answer| *places = answer))
 }
 
 fn try_ask(job: &[u8], plan: &[u8], task: &[u8]) -> Result<Places, Refusal> {
@@ -103,7 +100,7 @@ fn try_ask(job: &[u8], plan: &[u8], task: &[u8]) -> Result<Places, Refusal> {
 }
 
 fn commit(job: &[u8], plan: &[u8], booking: &[u8], out_job: &mut [u8], out_plan: &mut [u8]) -> u64 {
-    code(try_commit(job, plan, booking, out_job, out_plan))
+    code_of(try_commit(job, plan, booking, out_job, out_plan))
 }
 
 fn try_commit(
@@ -125,7 +122,7 @@ fn try_commit(
 }
 
 fn fault_sets(job: &[u8], plan: &[u8], out: &mut [u8]) -> u64 {
-    code(try_fault_sets(job, plan, out))
+    code_of(try_fault_sets(job, plan, out))
 }
 
 /// The judge is not asked.
@@ -134,7 +131,7 @@ fn try_fault_sets(job: &[u8], plan: &[u8], out: &mut [u8]) -> Result<(), Refusal
     let plan = read_plan(&job, plan)?;
     room_for(sets_bytes(job.tasks.len()), out)?;
     let sets = fault_sets::fault_sets(&job, &rules::layout(&job, &plan));
-    let bits = sets.iter().map(|set| set.iter().map(|&node| 1 << node).sum());
+    let bits = sets.iter().map(|set| set.iter().map(|&group| 1 << group).sum());
     put(&bits.flat_map(u32::to_le_bytes).collect::<Vec<u8>>(), out);
     Ok(())
 }

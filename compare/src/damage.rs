@@ -1,8 +1,6 @@
 //! Damaged files.
 
-use crate::files::{
-    read_job, task_count_offset, write_job, Job, MAX_SEND, MAX_TIME, NEWEST, READY, SEND,
-};
+use crate::files::{read_job, task_count_offset, write_job, Job, GROUP, NEWEST, READY, SEND};
 use crate::random::Random;
 
 /// Numbers at and around the limits of document 01.
@@ -134,26 +132,25 @@ pub fn disordered(random: &mut Random, job: &Job) -> Option<Vec<u8>> {
     Some(write_job(&job))
 }
 
-/// A job with a ready time at its limit or one beyond; none if it has no ready times.
-pub fn ready_at_limit(random: &mut Random, job: &Job) -> Option<Vec<u8>> {
-    if !READY.is_in(job.version) {
-        return None;
-    }
-    let mut job = job.clone();
-    let task = random.below(job.tasks.len());
-    job.tasks[task].ready = random.pick(&[MAX_TIME, MAX_TIME + 1]);
-    Some(write_job(&job))
+/// What not every version has.
+#[derive(Clone, Copy)]
+pub enum Newer {
+    Ready,
+    Send,
+    Group,
 }
 
-/// A job with a send time at its limit or one beyond; none if it has no send times.
-pub fn send_at_limit(random: &mut Random, job: &Job) -> Option<Vec<u8>> {
-    if !SEND.is_in(job.version) {
-        return None;
-    }
+/// A job with such a number at its limit or beyond; none if its version has no such numbers.
+pub fn at_limit(random: &mut Random, job: &Job, newer: Newer) -> Option<Vec<u8>> {
     let mut job = job.clone();
-    let node = random.below(job.nodes.len());
-    job.nodes[node].send = random.pick(&[MAX_SEND, MAX_SEND + 1]);
-    Some(write_job(&job))
+    let (task, node) = (random.below(job.tasks.len()), random.below(job.nodes.len()));
+    let (field, number) = match newer {
+        Newer::Ready => (READY, &mut job.tasks[task].ready),
+        Newer::Send => (SEND, &mut job.nodes[node].send),
+        Newer::Group => (GROUP, &mut job.nodes[node].group),
+    };
+    *number = random.pick(&[field.high, field.high + 1, u64::from(u32::MAX)]);
+    field.is_in(job.version).then(|| write_job(&job))
 }
 
 /// A job that ends among its nodes, within a number or between two.
@@ -167,7 +164,7 @@ pub fn cut_in_nodes(random: &mut Random, job: &Job) -> Vec<u8> {
 /// has a layout of its own, so it is misread there.
 pub fn renumbered(random: &mut Random, job: &Job) -> Vec<u8> {
     let other = ((job.version - 1 + random.between(1, NEWEST - 1)) % NEWEST + 1) as u32;
-    let unread = random.pick(&[0, 4, 5, 255, 256, u32::MAX]);
+    let unread = random.pick(&[0, 5, 6, 255, 256, u32::MAX]);
     let version = if random.percent(50) { other } else { unread };
     let mut file = write_job(job);
     file[..4].copy_from_slice(&version.to_le_bytes());

@@ -32,9 +32,17 @@ pub fn without_send_times(job: &Job) -> Option<Job> {
     (earlier != *job).then_some(earlier)
 }
 
+/// The job as it was before request (vi): each node is its own group. None if no two share one.
+pub fn without_drawers(job: &Job) -> Option<Job> {
+    let mut earlier = job.clone();
+    (0..).zip(&mut earlier.nodes).for_each(|(number, node)| node.group = number);
+    (job.groups().len() < job.nodes.len()).then_some(earlier)
+}
+
 /// The plan of the job as it was, if it breaks a rule now. If it breaks none, it is the planner's
-/// plan still: ready times and send times only take places away. (A result that arrives later may
-/// make a link weak and fault sets greater, never the other way.)
+/// plan still: ready times, send times and drawers only take places away. (A result that arrives
+/// later may make a link weak and fault sets greater, never the other way; fault sets that have no
+/// group in common have no node in common.)
 pub fn hasty_plan(job: &Job, earlier: &Job) -> Option<Plan> {
     let plan = planner::plan(earlier).ok()?;
     judge(job, &plan).is_err().then_some(plan)

@@ -1,7 +1,7 @@
 //! Damaged descriptions and bookings, jobs and plans, put to ask and commit.
 
 use crate::bookings::{write_booking, write_description, NewTask};
-use crate::damage::{cut_in_nodes, damaged, disordered, ready_at_limit, renumbered, send_at_limit};
+use crate::damage::{at_limit, cut_in_nodes, damaged, disordered, renumbered, Newer};
 use crate::faulty::faulty;
 use crate::files::{write_plan, Row};
 use crate::held::Held;
@@ -66,12 +66,13 @@ pub fn try_unpassed(
         let changed = write_plan(&changed_plan(random, &given.job, &held.plan));
         try_both(trial, &given.bytes, &changed, &task, &booking)?;
     }
-    let bad_job = match random.between(0, 7) {
+    let bad_job = match random.between(0, 8) {
         0 => disordered(random, &given.job),
-        1 => ready_at_limit(random, &given.job),
-        2 => send_at_limit(random, &given.job),
-        3 => Some(cut_in_nodes(random, &given.job)),
-        4 => Some(renumbered(random, &given.job)),
+        1 => at_limit(random, &given.job, Newer::Ready),
+        2 => at_limit(random, &given.job, Newer::Send),
+        3 => at_limit(random, &given.job, Newer::Group),
+        4 => Some(cut_in_nodes(random, &given.job)),
+        5 => Some(renumbered(random, &given.job)),
         _ => Some(damaged(random, &given.bytes)),
     };
     if let Some(job) = bad_job {

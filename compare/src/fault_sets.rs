@@ -6,7 +6,7 @@ use std::collections::BTreeSet;
 use crate::files::Job;
 use crate::rules::{is_weak, FaultSet, Layout};
 
-/// For each task the nodes that hold its primary, or the primary of any task from which a path of
+/// For each task the groups that hold its primary, or the primary of any task from which a path of
 /// weak links leads to it.
 pub fn fault_sets(job: &Job, layout: &Layout) -> Vec<FaultSet> {
     let tasks = 0..job.tasks.len();
@@ -14,7 +14,7 @@ pub fn fault_sets(job: &Job, layout: &Layout) -> Vec<FaultSet> {
     let reached: Vec<_> = tasks.clone().map(|task| led_to(&steps, task)).collect();
     let fault_set = |task: usize| {
         let stops_it = |&other: &usize| other == task || reached[other].contains(&task);
-        tasks.clone().filter(stops_it).map(|other| layout.primaries[other].node).collect()
+        tasks.clone().filter(stops_it).map(|other| layout.primaries[other].group).collect()
     };
     tasks.clone().map(fault_set).collect()
 }
@@ -70,6 +70,6 @@ mod tests {
                 large += sets.iter().filter(|set| set.len() > 2).count();
             }
         }
-        assert!(large > 2000, "only {large} sets of three nodes or more");
+        assert!(large > 2000, "only {large} sets of three groups or more");
     }
 }

@@ -1,5 +1,7 @@
 //! Job and plan files: read number by number, and written.
 
+use std::collections::BTreeSet;
+
 use crate::refusal::{Refusal, COUNT, LINK_ORDER, SHORT, TAIL, UNABLE, VALUE, VERSION};
 
 pub const NODES: (u64, u64) = (2, 16);
@@ -7,16 +9,17 @@ pub const TASKS: (u64, u64) = (1, 64);
 pub const LINKS: (u64, u64) = (0, 512);
 pub const MAX_DETECT: u64 = 1_000;
 pub const MAX_SEND: u64 = 1_000;
+pub const MAX_GROUP: u64 = 15;
 pub const MAX_TIME: u64 = 1_000_000;
 
 /// The newest version of a job. A plan has version 1 only.
-pub const NEWEST: u64 = 3;
+pub const NEWEST: u64 = 4;
 
 /// A number of an entry: the first version of a job that has it, and its limits.
 pub struct Field {
     since: u64,
     low: u64,
-    high: u64,
+    pub high: u64,
 }
 
 impl Field {
@@ -27,9 +30,10 @@ impl Field {
 
 const DETECT: Field = Field { since: 1, low: 0, high: MAX_DETECT };
 pub const SEND: Field = Field { since: 3, low: 0, high: MAX_SEND };
+pub const GROUP: Field = Field { since: 4, low: 0, high: MAX_GROUP };
 
 /// A node's entry.
-const NODE: [Field; 2] = [DETECT, SEND];
+const NODE: [Field; 3] = [DETECT, SEND, GROUP];
 
 pub const READY: Field = Field { since: 2, low: 0, high: MAX_TIME };
 const DEADLINE: Field = Field { since: 1, low: 1, high: MAX_TIME };
@@ -50,6 +54,8 @@ pub struct Node {
     pub detect: u64,
     /// What a result needs, beside the link's delay, to leave for another node.
     pub send: u64,
+    /// The supply group: one loss takes all nodes of one group.
+    pub group: u64,
 }
 
 #[derive(Clone, Debug, PartialEq, Eq)]
@@ -88,6 +94,11 @@ pub struct Place {
 impl Job {
     pub fn links_into(&self, task: usize) -> impl Iterator<Item = &Link> {
         self.links.iter().filter(move |link| link.to == task)
+    }
+
+    /// The groups that have a node.
+    pub fn groups(&self) -> BTreeSet<u64> {
+        self.nodes.iter().map(|node| node.group).collect()
     }
 }
 
@@ -138,13 +149,14 @@ impl Cursor<'_> {
         self.within(low, high, VALUE)
     }
 
-    /// The fields of an entry; one that the version lacks counts as 0.
+    /// The fields of an entry; one that the version lacks counts as listed in `lacking`.
     fn fields<const N: usize>(
         &mut self,
         version: u64,
         fields: &[Field; N],
+        lacking: [u64; N],
     ) -> Result<[u64; N], Refusal> {
-        let mut values = [0; N];
+        let mut values = lacking;
         for (value, field) in values.iter_mut().zip(fields) {
             if field.is_in(version) {
                 *value = self.value(field.low, field.high)?;
@@ -165,8 +177,8 @@ pub fn read_job(bytes: &[u8]) -> Result<Job, Refusal> {
     let mut file = Cursor::new(bytes);
     let version = file.version(NEWEST)?;
     let node_count = file.count(NODES)?;
-    let mut node = || read_node(&mut file, version);
-    let nodes = (0..node_count).map(|_| node()).collect::<Result<_, _>>()?;
+    let mut node = |number: usize| read_node(&mut file, version, number);
+    let nodes = (0..node_count).map(&mut node).collect::<Result<_, _>>()?;
     let task_count = file.count(TASKS)?;
     let mut task = || read_task(&mut file, version, node_count);
     let tasks = (0..task_count).map(|_| task()).collect::<Result<_, _>>()?;
@@ -175,13 +187,14 @@ pub fn read_job(bytes: &[u8]) -> Result<Job, Refusal> {
     Ok(Job { version, nodes, tasks, links })
 }
 
-fn read_node(file: &mut Cursor, version: u64) -> Result<Node, Refusal> {
-    let [detect, send] = file.fields(version, &NODE)?;
-    Ok(Node { detect, send })
+/// In versions without groups each node is its own.
+fn read_node(file: &mut Cursor, version: u64, number: usize) -> Result<Node, Refusal> {
+    let [detect, send, group] = file.fields(version, &NODE, [0, 0, number as u64])?;
+    Ok(Node { detect, send, group })
 }
 
 pub fn read_task(file: &mut Cursor, version: u64, nodes: usize) -> Result<Task, Refusal> {
-    let [ready, deadline] = file.fields(version, &TASK)?;
+    let [ready, deadline] = file.fields(version, &TASK, [0; 2])?;
     let run = (0..nodes).map(|_| file.value(0, MAX_TIME)).collect::<Result<_, _>>()?;
     Ok(Task { ready, deadline, run })
 }
@@ -252,7 +265,8 @@ pub fn bytes_of(numbers: &[u64]) -> Vec<u8> {
 
 /// The nodes' entries in a job of that version.
 fn node_numbers(version: u64, nodes: &[Node]) -> impl Iterator<Item = u64> + '_ {
-    nodes.iter().flat_map(move |node| present(version, &NODE, [node.detect, node.send]))
+    let listed = |node: &Node| [node.detect, node.send, node.group];
+    nodes.iter().flat_map(move |node| present(version, &NODE, listed(node)))
 }
 
 /// Where the task count stands, behind the nodes.
@@ -295,7 +309,7 @@ mod tests {
     use super::*;
     use crate::jobs::random_job;
     use crate::random::Random;
-    use crate::samples::{with_ready, with_send};
+    use crate::samples::{with_groups, with_ready, with_send};
     use crate::sized::planned;
 
     #[test]
@@ -343,8 +357,26 @@ mod tests {
     }
 
     #[test]
+    fn a_group_is_no_part_of_older_jobs() {
+        for version in [1, 2, 3] {
+            let file = write_job(&Job { version, ..with_groups([5, 5, 9]) });
+            assert_eq!(read_job(&file), Ok(Job { version, ..with_groups([0, 1, 2]) }));
+        }
+    }
+
+    #[test]
+    fn a_group_stands_behind_its_send_time() {
+        let mut file = write_job(&with_groups([5, 5, 9]));
+        assert_eq!(file[8..24], [1, 0, 0, 0, 0, 0, 0, 0, 5, 0, 0, 0, 1, 0, 0, 0]);
+        file[16] = MAX_GROUP as u8;
+        assert_eq!(read_job(&file), Ok(with_groups([MAX_GROUP, 5, 9])));
+        file[16] = MAX_GROUP as u8 + 1;
+        assert_eq!(read_job(&file), Err(Refusal::at(VALUE, 16)));
+    }
+
+    #[test]
     fn the_longest_jobs() {
-        for (version, bytes) in [(1, 10_576), (2, 10_832), (3, 10_896)] {
+        for (version, bytes) in [(1, 10_576), (2, 10_832), (3, 10_896), (4, 10_960)] {
             assert_eq!(planned(version, 16, 64, 512).job.len(), bytes);
         }
     }

@@ -28,7 +28,7 @@ macro_rules! c_console {
                     job_len: usize,
                     plan: *const u8,
                     plan_len: usize,
-                    node: u32,
+                    group: u32,
                     moment: u32,
                     out: *mut u8,
                     out_len: usize,
@@ -83,8 +83,8 @@ macro_rules! c_console {
                 let (out, out_len) = (out.as_mut_ptr(), out.len());
                 match loss {
                     None => unsafe { $replay(job, job_len, plan, plan_len, out, out_len) },
-                    Some(Loss { node, moment }) => unsafe {
-                        $replay_loss(job, job_len, plan, plan_len, node, moment, out, out_len)
+                    Some(Loss { group, moment }) => unsafe {
+                        $replay_loss(job, job_len, plan, plan_len, group, moment, out, out_len)
                     },
                 }
             }

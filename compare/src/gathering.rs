@@ -7,19 +7,19 @@ use crate::rules::{is_weak, FaultSet, Layout};
 /// What the sets of a plan are gathered from. A strong link brings nothing.
 pub struct Gathering {
     weak: Vec<Link>,
-    /// The sets before any task is gathered: each holds its own primary's node.
+    /// The sets before any task is gathered: each holds its own primary's group.
     own: Vec<FaultSet>,
 }
 
 impl Gathering {
     pub fn new(job: &Job, layout: &Layout) -> Gathering {
         let weak = job.links.iter().filter(|link| is_weak(layout, link));
-        let own = layout.primaries.iter().map(|primary| FaultSet::from([primary.node]));
+        let own = layout.primaries.iter().map(|primary| FaultSet::from([primary.group]));
         Gathering { weak: weak.copied().collect(), own: own.collect() }
     }
 
     /// The request's sentence, with the sets of the rules given: once a task is gathered, its set
-    /// and those before it are these, and each later one holds its own primary's node alone.
+    /// and those before it are these, and each later one holds its own primary's group alone.
     pub fn keeps_to(&self, sets: &[FaultSet]) -> bool {
         let mut states = self.states(|link| link.to);
         states.all(|(task, state)| {
@@ -33,7 +33,7 @@ impl Gathering {
         self.states(|link| link.to).ne(self.states(|link| link.from))
     }
 
-    /// The sets if the last link is followed first. A sender's set has then only its own node.
+    /// The sets if the last link is followed first. A sender's set has then only its own group.
     pub fn in_reverse(&self) -> Vec<FaultSet> {
         let mut sets = self.own.clone();
         self.weak.iter().rev().for_each(|link| follow(&mut sets, link));
@@ -72,7 +72,7 @@ mod tests {
         Gathering::new(&chain(), &layout(&chain(), &plan_of(CHAINED)))
     }
 
-    fn states_of(gathering: &Gathering, turn: fn(&Link) -> usize) -> Vec<[Vec<usize>; 3]> {
+    fn states_of(gathering: &Gathering, turn: fn(&Link) -> usize) -> Vec<[Vec<u64>; 3]> {
         let listed =
             |sets: Vec<FaultSet>| [0, 1, 2].map(|task| sets[task].iter().copied().collect());
         gathering.states(turn).map(|(_, sets)| listed(sets)).collect()

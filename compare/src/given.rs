@@ -47,8 +47,13 @@ impl Given {
         Call { function: Function::Commit(booking, rooms.1), job: &self.bytes, plan, room: rooms.0 }
     }
 
-    pub fn nodes(&self) -> usize {
-        self.job.nodes.len()
+    pub fn nodes(&self) -> u32 {
+        self.job.nodes.len() as u32
+    }
+
+    /// The groups that have a node, rising.
+    pub fn groups(&self) -> Vec<u64> {
+        self.job.groups().into_iter().collect()
     }
 
     pub fn plan_room(&self) -> usize {

@@ -2,13 +2,13 @@
 
 use crate::asking::{self, longer_job, longer_plan};
 use crate::bookings::{write_booking, write_description, NewTask};
-use crate::earlier::{keeps_rule_e_of_01, without_send_times};
+use crate::earlier::{keeps_rule_e_of_01, without_drawers, without_send_times};
 use crate::files::{read_job, read_plan, write_plan, Job, Place, Plan, Row};
 use crate::given::Given;
 use crate::losses::try_survival;
 use crate::random::Random;
 use crate::refusal::{describe, Refusal, NO_BACKUP, NO_PRIMARY, STALE};
-use crate::rules::{layout, overlap};
+use crate::rules::{layout, sharing_backups};
 use crate::survival::Survival;
 use crate::trial::{Call, Mismatch, Trial};
 
@@ -88,15 +88,30 @@ impl Held {
         Ok(None)
     }
 
-    /// Commits the places that the task would have with all send times 0, if they are others.
+    /// Commits the places that the task would have with all send times 0, and with each node its
+    /// own group, if they are others.
     pub fn try_hasty(&self, trial: &mut Trial, new: &NewTask, row: Row) -> Result<(), Mismatch> {
-        let earlier = without_send_times(self.job());
-        let hasty = earlier.and_then(|job| asking::ask(&job, &self.plan, new).ok());
-        if let Some(hasty) = hasty.filter(|&hasty| hasty != row) {
-            trial.tally.asked_by_send += 1;
-            self.book(trial, new, hasty)?;
-        }
+        let (sent_at_once, apart) = (without_send_times(self.job()), without_drawers(self.job()));
+        trial.tally.asked_by_send += self.try_earlier(trial, new, row, sent_at_once)?;
+        trial.tally.asked_by_group += self.try_earlier(trial, new, row, apart)?;
         Ok(())
+    }
+
+    /// Commits the places that the task would have in the job as it was, if they are others.
+    /// Answers how many were tried.
+    fn try_earlier(
+        &self,
+        trial: &mut Trial,
+        new: &NewTask,
+        row: Row,
+        earlier: Option<Job>,
+    ) -> Result<u64, Mismatch> {
+        let hasty = earlier.and_then(|job| asking::ask(&job, &self.plan, new).ok());
+        let Some(hasty) = hasty.filter(|&hasty| hasty != row) else {
+            return Ok(0);
+        };
+        self.book(trial, new, hasty)?;
+        Ok(1)
     }
 
     /// Commits with room for all. What is answered is the longer pair, if it was booked: just if
@@ -168,9 +183,8 @@ impl Held {
 
 /// Whether the last backup shares ticks of its node with another.
 fn shares(job: &Job, plan: &Plan) -> bool {
-    let backups = layout(job, plan).backups;
-    let (last, others) = backups.split_last().expect("a plan has a row");
-    others.iter().any(|other| overlap(other, last))
+    let last = plan.rows.len() - 1;
+    sharing_backups(&layout(job, plan)).any(|(_, higher)| higher == last)
 }
 
 /// Compares a call of ask or commit on a pair that passes.

@@ -1,7 +1,8 @@
 //! Random jobs. Numbers are small, so that copies get in each other's way.
 
 use crate::files::{
-    Job, Link, Node, Task, LINKS, MAX_DETECT, MAX_SEND, MAX_TIME, NEWEST, READY, SEND,
+    Job, Link, Node, Task, GROUP, LINKS, MAX_DETECT, MAX_GROUP, MAX_SEND, MAX_TIME, NEWEST, NODES,
+    READY, SEND,
 };
 use crate::random::Random;
 
@@ -26,11 +27,16 @@ struct Style {
 }
 
 pub fn random_job(random: &mut Random) -> Job {
-    let style = if random.percent(30) { slow_style(random) } else { random_style(random) };
+    let mut style = if random.percent(30) { slow_style(random) } else { random_style(random) };
+    if GROUP.is_in(style.version) && random.percent(60) {
+        // Nodes that share their supply take more of them.
+        style.nodes = (2 * style.nodes).min(NODES.1);
+    }
     let tasks = deadlines(random, &style).into_iter();
+    let groups = random_groups(random, &style).into_iter();
     let mut job = Job {
         version: style.version,
-        nodes: (0..style.nodes).map(|_| random_node(random, &style)).collect(),
+        nodes: groups.map(|group| random_node(random, &style, group)).collect(),
         tasks: tasks.map(|deadline| random_task(random, &style, deadline)).collect(),
         links: random_links(random, &style),
     };
@@ -90,9 +96,33 @@ fn random_size(random: &mut Random) -> (u64, u64) {
     }
 }
 
-fn random_node(random: &mut Random, style: &Style) -> Node {
+/// Each node alone; drawers of two, neighbours or not; drawers of any size; or one drawer for all.
+/// As often as not their numbers are drawn too, so that there are gaps.
+fn random_groups(random: &mut Random, style: &Style) -> Vec<u64> {
+    let nodes = 0..style.nodes;
+    if !GROUP.is_in(style.version) {
+        return nodes.collect();
+    }
+    let pairs = style.nodes.div_ceil(2);
+    let most = random.between(2, style.nodes);
+    let mut numbers: Vec<u64> = (0..=MAX_GROUP).collect();
+    if random.percent(50) {
+        (1..numbers.len()).for_each(|at| numbers.swap(at, random.below(at + 1)));
+    }
+    let kind = random.between(0, 99);
+    let mut drawer = |node: u64| match kind {
+        0..=19 => node,
+        20..=49 => node / 2,
+        50..=64 => node % pairs,
+        65..=94 => random.between(0, most - 1),
+        _ => 0,
+    };
+    nodes.map(|node| numbers[drawer(node) as usize]).collect()
+}
+
+fn random_node(random: &mut Random, style: &Style, group: u64) -> Node {
     let detect = (random.between(0, style.max_detect) * style.unit).min(MAX_DETECT);
-    Node { detect, send: random_send(random, style) }
+    Node { detect, send: random_send(random, style), group }
 }
 
 /// Two cards of five are quick, and one of a hundred is as slow as can be.
@@ -166,6 +196,9 @@ fn push_to_limits(random: &mut Random, job: &mut Job) {
         }
         if SEND.is_in(job.version) && random.percent(30) {
             node.send = random.pick(&[MAX_SEND, MAX_SEND - 1]);
+        }
+        if GROUP.is_in(job.version) && random.percent(30) {
+            node.group = random.pick(&[MAX_GROUP, MAX_GROUP - 1, 0]);
         }
     }
     for task in &mut job.tasks {

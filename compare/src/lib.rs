@@ -1,12 +1,14 @@
-//! A second implementation of document 01 and of requests (i) to (v) of document 02, and
+//! A second implementation of document 01 and of requests (i) to (vi) of document 02, and
 //! what compares the proved library with it.
 
 pub mod asked_samples;
 pub mod asking;
 pub mod bookings;
+pub mod changed_jobs;
 pub mod console;
 pub mod damage;
 pub mod descriptions;
+pub mod drawers;
 pub mod earlier;
 pub mod entries;
 pub mod fault_sets;
@@ -18,6 +20,7 @@ pub mod forgetful;
 pub mod framed;
 pub mod gathering;
 pub mod given;
+pub mod group_samples;
 pub mod held;
 pub mod jobs;
 pub mod losses;

@@ -1,15 +1,15 @@
-//! Losses of a node, tried on a plan.
+//! Losses of a group, tried on a plan.
 
-use crate::console::SECOND;
+use crate::drawers::count_losses;
 use crate::earlier::without_send_times;
-use crate::files::write_job;
+use crate::files::{Job, Plan};
 use crate::given::Given;
 use crate::random::Random;
-use crate::replay::Loss;
+use crate::replay::{replay, Loss};
 use crate::survival::Survival;
 use crate::trial::{Mismatch, Trial};
 
-/// Up to so many runs of a passed plan, every node is lost at every tick.
+/// Up to so many runs of a passed plan, every group is lost at every tick.
 const MOST_RUNS: u64 = 8_000;
 
 /// Moments from the end of a plan on, up to the greatest that can be asked for.
@@ -27,35 +27,35 @@ pub fn try_losses(
     survival: &Survival,
     passed: bool,
 ) -> Result<(), Mismatch> {
-    let mut losses: Vec<(usize, u64)> = survival.moments().collect();
+    let mut losses: Vec<(u64, u64)> = survival.moments().collect();
     let wanted = if passed { 256 } else { 24 };
     while losses.len() > wanted {
         losses.swap_remove(random.below(losses.len()));
     }
-    let node = random.below(given.nodes());
-    losses.extend(moments_after(survival).map(|moment| (node, moment)));
-    losses.push((node, random.between(0, survival.end() + 1)));
-    let lost = |(node, moment)| Some(Loss { node: node as u32, moment: moment as u32 });
-    let runs: Vec<Option<Loss>> = losses.into_iter().map(lost).chain([None]).collect();
-    for &loss in &runs {
+    let group = random.pick(&given.groups());
+    losses.extend(moments_after(survival).map(|moment| (group, moment)));
+    losses.push((group, random.between(0, survival.end() + 1)));
+    let losses: Vec<Loss> = losses.into_iter().map(lost).collect();
+    for loss in losses.iter().copied().map(Some).chain([None]) {
         trial.compare(&given.replay(plan, loss, given.replay_room()))?;
     }
-    trial.tally.replayed_by_send += changed_by_send(given, plan, &runs);
+    trial.tally.replayed_by_send += changed_by_send(&given.job, survival.plan, &losses);
+    count_losses(&mut trial.tally, &given.job, survival.plan, &losses);
     Ok(())
 }
 
-/// How many runs are not what they would be with all send times 0.
-fn changed_by_send(given: &Given, plan: &[u8], runs: &[Option<Loss>]) -> u64 {
-    let Some(earlier) = without_send_times(&given.job).map(|job| write_job(&job)) else {
+fn lost((group, moment): (u64, u64)) -> Loss {
+    Loss { group: group as u32, moment: moment as u32 }
+}
+
+/// How many runs, that without loss among them, are not what they would be with all send times 0.
+fn changed_by_send(job: &Job, plan: &Plan, losses: &[Loss]) -> u64 {
+    let Some(earlier) = without_send_times(job) else {
         return 0;
     };
-    let rows = |job: &[u8], loss: Option<Loss>| {
-        let mut rows = vec![0; given.replay_room()];
-        (SECOND.replay)(job, plan, loss, &mut rows);
-        rows
-    };
-    let changed = |&&loss: &&Option<Loss>| rows(&given.bytes, loss) != rows(&earlier, loss);
-    runs.iter().filter(changed).count() as u64
+    let runs = losses.iter().copied().map(Some).chain([None]);
+    let changed = |&loss: &Option<Loss>| replay(job, plan, loss) != replay(&earlier, plan, loss);
+    runs.filter(changed).count() as u64
 }
 
 /// Demand 3 on the console's own replay of a passed plan.
@@ -76,20 +76,19 @@ pub fn try_survival(
         fault.map_or(Ok(()), |text| Err(Mismatch::new(&call, text)))
     };
     run(None)?;
-    let (nodes, end) = (given.nodes() as u64, survival.end() + 1);
-    let lost = |node: u64, moment: u64| Some(Loss { node: node as u32, moment: moment as u32 });
-    if nodes * (end + 1) <= MOST_RUNS {
-        for node in 0..nodes {
-            (0..=end).try_for_each(|moment| run(lost(node, moment)))?;
+    let (groups, end) = (given.groups(), survival.end() + 1);
+    if groups.len() as u64 * (end + 1) <= MOST_RUNS {
+        for group in groups {
+            (0..=end).try_for_each(|moment| run(Some(lost((group, moment)))))?;
         }
         trial.tally.every_tick += 1;
         return Ok(());
     }
-    for (node, moment) in survival.moments() {
-        run(lost(node as u64, moment))?;
+    for moment in survival.moments() {
+        run(Some(lost(moment)))?;
     }
     for _ in 0..200 {
-        run(lost(random.between(0, nodes - 1), random.between(0, end)))?;
+        run(Some(lost((random.pick(&groups), random.between(0, end)))))?;
     }
     Ok(())
 }

@@ -101,10 +101,10 @@ impl<'a> Draft<'a> {
         let fault_set = &self.fault_sets[task];
         let shares = |other: usize| fault_set.is_disjoint(&self.fault_sets[other]);
         let mut backups = self.layout.backups.iter().enumerate();
-        backup.node != primary.node
+        backup.group != primary.group
             && after_detection(self.job, primary, backup)
             && backup.finish <= self.job.tasks[task].deadline
-            && !fault_set.contains(&backup.node)
+            && !fault_set.contains(&backup.group)
             && !self.layout.primaries.iter().any(|other| overlap(other, backup))
             && !backups.any(|(other, copy)| overlap(copy, backup) && !shares(other))
     }
@@ -178,7 +178,9 @@ impl<'a> Draft<'a> {
 #[cfg(test)]
 mod tests {
     use super::*;
-    use crate::earlier::{hasty_plan, keeps_rule_e_of_01, without_ready_times, without_send_times};
+    use crate::earlier::{
+        hasty_plan, keeps_rule_e_of_01, without_drawers, without_ready_times, without_send_times,
+    };
     use crate::jobs::random_job;
     use crate::random::Random;
     use crate::rules::in_time;
@@ -270,5 +272,10 @@ mod tests {
     #[test]
     fn just_the_plans_that_send_times_break_are_moved() {
         assert!(moved(|job| without_send_times(job).unwrap_or(job.clone())) > 100);
+    }
+
+    #[test]
+    fn just_the_plans_that_drawers_break_are_moved() {
+        assert!(moved(|job| without_drawers(job).unwrap_or(job.clone())) > 50);
     }
 }

@@ -100,7 +100,7 @@ fn change(random: &mut Random, job: &Job, plan: &mut Plan) {
     let start = plan_time(random, plan);
     let met = plan.rows[other];
     let row = &mut plan.rows[task];
-    match random.between(0, 16) {
+    match random.between(0, 18) {
         0..=3 => nudge(random, row, 1),
         4 | 5 => nudge(random, row, 6),
         6 => some_place(random, row).node = random.below(nodes),
@@ -109,10 +109,21 @@ fn change(random: &mut Random, job: &Job, plan: &mut Plan) {
         9 => std::mem::swap(&mut row.primary, &mut row.backup),
         10 => row.backup = met.backup,
         11 => shift_from(random, plan, task),
-        12 | 13 => row.backup.node = met.primary.node,
+        12 | 13 => row.backup.node = in_drawer(random, job, met.primary.node),
         14 => start_too_soon(random, &job.tasks[task], &mut row.primary),
+        15 => row.backup.node = in_drawer(random, job, row.primary.node),
+        16 => {
+            let place = some_place(random, row);
+            place.node = in_drawer(random, job, place.node);
+        }
         _ => meet_later(random, row, &met),
     }
+}
+
+/// A node of the same group; the node itself, if it is alone there.
+fn in_drawer(random: &mut Random, job: &Job, node: usize) -> usize {
+    let mates = |&other: &usize| job.nodes[other].group == job.nodes[node].group;
+    random.pick(&(0..job.nodes.len()).filter(mates).collect::<Vec<usize>>())
 }
 
 fn some_place<'a>(random: &mut Random, row: &'a mut Row) -> &'a mut Place {

@@ -56,7 +56,7 @@ pub struct Refusal {
 }
 
 impl Refusal {
-    /// A refusal whose only place is a byte offset, a length, a node or a task.
+    /// A refusal whose only place is a byte offset, a length, a group or a task.
     pub fn at(number: u8, place: u64) -> Refusal {
         Refusal { number, first: place, second: 0 }
     }
@@ -77,13 +77,24 @@ impl Refusal {
     }
 }
 
+/// An answer as the 8-byte number: success is 0.
+pub fn code_of(answer: Result<(), Refusal>) -> u64 {
+    answer.map_or_else(Refusal::code, |()| 0)
+}
+
 /// The number of an 8-byte result, which may come from a faulty library.
 pub fn number_of(code: u64) -> usize {
     (code & 0xff) as usize
 }
 
+/// Both places of an 8-byte result.
+pub fn places_of(code: u64) -> (u64, u64) {
+    (code >> 8 & 0xffff_ffff, code >> 40)
+}
+
 /// An 8-byte result in words.
 pub fn describe(code: u64) -> String {
     let word = WORDS.get(number_of(code)).copied().unwrap_or("(no such refusal)");
-    format!("{} {} ({}, {})", number_of(code), word, code >> 8 & 0xffff_ffff, code >> 40)
+    let (first, second) = places_of(code);
+    format!("{} {word} ({first}, {second})", number_of(code))
 }

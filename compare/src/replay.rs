@@ -1,4 +1,4 @@
-//! Replay: what becomes of every copy, with no loss or with one node lost.
+//! Replay: what becomes of every copy, with no loss or with one group of nodes lost.
 
 use crate::files::{Job, Plan};
 use crate::rules::{after_detection, after_ready, in_time, layout, Copy};
@@ -10,10 +10,10 @@ pub enum State {
     Finished = 2,
 }
 
-/// Node `node` is lost at `moment`.
+/// Every node of `group` is lost at `moment`.
 #[derive(Clone, Copy, Debug, PartialEq, Eq)]
 pub struct Loss {
-    pub node: u32,
+    pub group: u32,
     pub moment: u32,
 }
 
@@ -63,7 +63,7 @@ fn state(copy: &Copy, starts: bool, loss: Option<Loss>) -> State {
     if !starts {
         return State::NotStarted;
     }
-    match loss.filter(|loss| loss.node as usize == copy.node) {
+    match loss.filter(|loss| u64::from(loss.group) == copy.group) {
         Some(loss) if copy.start >= u64::from(loss.moment) => State::NotStarted,
         Some(loss) if copy.finish > u64::from(loss.moment) => State::Cut,
         _ => State::Finished,

@@ -2,20 +2,24 @@
 
 use std::collections::BTreeSet;
 
+use crate::changed_jobs::try_changed_jobs;
 use crate::console::plan_bytes;
-use crate::damage::{cut_in_nodes, damaged, disordered, ready_at_limit, renumbered, send_at_limit};
-use crate::earlier::{hasty_plan, keeps_rule_e_of_01, without_ready_times, without_send_times};
-use crate::files::{read_job, read_plan, write_plan, Job, Plan, MAX_SEND, NEWEST, NODES, TASKS};
+use crate::damage::{at_limit, cut_in_nodes, damaged, disordered, renumbered, Newer};
+use crate::drawers::sends_in_drawer;
+use crate::earlier::{
+    hasty_plan, keeps_rule_e_of_01, without_drawers, without_ready_times, without_send_times,
+};
+use crate::files::{read_job, read_plan, write_plan, Job, Plan, MAX_GROUP, NEWEST, TASKS};
 use crate::forgetful::forgetful_plan;
 use crate::given::{some_room, Given};
 use crate::jobs::random_job;
 use crate::losses::{moments_after, try_losses, try_survival};
 use crate::plans::{changed_plan, passing_plan, wild_plan};
 use crate::random::Random;
-use crate::refusal::{Refusal, SAME_NODE, VERSION};
+use crate::refusal::{number_of, Refusal, NO_SUCH_NODE, SAME_NODE, VERSION};
 use crate::replay::{replay, Loss, State};
-use crate::rules::{judge, layout, longest_weak_path};
-use crate::set_calls::{try_rooms, try_sets};
+use crate::rules::{judge, layout, longest_weak_path, sharing_backups};
+use crate::set_calls::{try_judge, try_rooms};
 use crate::survival::Survival;
 use crate::tally::Tally;
 use crate::trial::{Call, Function, Mismatch, Trial};
@@ -23,22 +27,18 @@ use crate::trial::{Call, Function, Mismatch, Trial};
 pub fn round(trial: &mut Trial, random: &mut Random) -> Result<(), Mismatch> {
     let given = Given::new(random_job(random));
     let planned = try_planner(trial, random, &given)?;
-    if let Some(hasty) = hasty_plan(&given.job, &without_ready_times(&given.job)) {
-        trial.tally.planned_later += u64::from(planned.is_some());
-        try_plan(trial, random, &given, &write_plan(&hasty))?;
-    }
-    let earlier = without_send_times(&given.job);
-    if let Some(hasty) = earlier.and_then(|earlier| hasty_plan(&given.job, &earlier)) {
-        trial.tally.planned_by_send += u64::from(planned.is_some());
-        try_plan(trial, random, &given, &write_plan(&hasty))?;
-    }
+    let is_planned = u64::from(planned.is_some());
+    let all_ready = Some(without_ready_times(&given.job));
+    trial.tally.planned_later += is_planned * try_hasty(trial, random, &given, all_ready)?;
+    let sent_at_once = without_send_times(&given.job);
+    trial.tally.planned_by_send += is_planned * try_hasty(trial, random, &given, sent_at_once)?;
+    let apart = without_drawers(&given.job);
+    trial.tally.planned_by_group += is_planned * try_hasty(trial, random, &given, apart)?;
     let good = good_plans(random, &given.job, planned);
     for plan in &good {
         try_plan(trial, random, &given, &write_plan(plan))?;
         try_changes(trial, random, &given, plan)?;
-        try_deadlines(trial, random, &given, plan)?;
-        try_ready_times(trial, random, &given, plan)?;
-        try_send_times(trial, random, &given, plan)?;
+        try_changed_jobs(trial, random, &given, plan)?;
     }
     let wild = write_plan(&wild_plan(random, &given.job));
     try_plan(trial, random, &given, &wild)?;
@@ -50,20 +50,34 @@ pub fn round(trial: &mut Trial, random: &mut Random) -> Result<(), Mismatch> {
     Ok(())
 }
 
+/// Tries the plan of the job as it was, if it breaks a rule now. Answers how many were tried.
+fn try_hasty(
+    trial: &mut Trial,
+    random: &mut Random,
+    given: &Given,
+    earlier: Option<Job>,
+) -> Result<u64, Mismatch> {
+    let Some(hasty) = earlier.and_then(|earlier| hasty_plan(&given.job, &earlier)) else {
+        return Ok(0);
+    };
+    try_plan(trial, random, given, &write_plan(&hasty))?;
+    Ok(1)
+}
+
 /// All comparisons on a given pair of files, as written after a mismatch: nothing is left to
 /// chance, so that the mismatch is met again.
 pub fn pair(trial: &mut Trial, job: &[u8], plan: &[u8]) -> Result<(), Mismatch> {
     let most = plan_bytes(TASKS.1 as usize) + 16;
     trial.compare(&Call { function: Function::Judge, job, plan, room: 0 })?;
-    let lose = |node: u32| Function::Replay(Some(Loss { node, moment: 3 }));
+    let lose = |group: u32| Function::Replay(Some(Loss { group, moment: 3 }));
     let replay = Function::Replay(None);
     for room in 0..=most {
         for function in [Function::Plan, replay, lose(0), lose(u32::MAX), Function::FaultSets] {
             trial.compare(&Call { function, job, plan, room })?;
         }
     }
-    for node in (0..=NODES.1 as u32).chain(FAR_NODES) {
-        trial.compare(&Call { function: lose(node), job, plan, room: most })?;
+    for group in (0..=MAX_GROUP as u32).chain(FAR_GROUPS) {
+        trial.compare(&Call { function: lose(group), job, plan, room: most })?;
     }
     match read_job(job) {
         Ok(job) => pair_losses(trial, &Given::new(job), plan),
@@ -71,7 +85,7 @@ pub fn pair(trial: &mut Trial, job: &[u8], plan: &[u8]) -> Result<(), Mismatch> 
     }
 }
 
-/// Every node lost at every moment of interest, if both files read well.
+/// Every group lost at every moment of interest, if both files read well.
 fn pair_losses(trial: &mut Trial, given: &Given, bytes: &[u8]) -> Result<(), Mismatch> {
     let Ok(plan) = read_plan(&given.job, bytes) else {
         return Ok(());
@@ -79,9 +93,9 @@ fn pair_losses(trial: &mut Trial, given: &Given, bytes: &[u8]) -> Result<(), Mis
     let survival = Survival::new(&given.job, &plan);
     let after = moments_after(&survival).into_iter();
     let moments: BTreeSet<u64> = survival.moments().map(|(_, m)| m).chain(after).collect();
-    for node in 0..given.nodes() as u32 {
+    for group in given.groups() {
         for &moment in &moments {
-            let loss = Some(Loss { node, moment: moment as u32 });
+            let loss = Some(Loss { group: group as u32, moment: moment as u32 });
             trial.compare(&given.replay(bytes, loss, given.replay_room()))?;
         }
     }
@@ -105,6 +119,7 @@ fn try_planner(
     }
     trial.compare(&given.plan(some_room(random, room)))?;
     if trial.compare(&given.plan(room))? != 0 {
+        trial.tally.one_group_refused += u64::from(given.groups().len() == 1);
         return Ok(None);
     }
     let bytes = trial.written().to_vec();
@@ -150,81 +165,9 @@ fn try_changes(
     }
     for _ in 0..16 {
         let changed = write_plan(&changed_plan(random, &given.job, plan));
-        let judged = trial.compare(&given.judge(&changed))?;
-        try_sets(trial, given, &changed, judged)?;
+        try_judge(trial, given, &changed)?;
     }
     Ok(())
-}
-
-/// A deadline set to a finish of the plan, and to one tick less.
-fn try_deadlines(
-    trial: &mut Trial,
-    random: &mut Random,
-    given: &Given,
-    plan: &Plan,
-) -> Result<(), Mismatch> {
-    let task = random.below(plan.rows.len());
-    let places = [plan.rows[task].primary, plan.rows[task].backup];
-    for place in places {
-        let finish = place.start + given.job.tasks[task].run[place.node];
-        for deadline in [finish, finish - 1] {
-            let mut job = given.job.clone();
-            job.tasks[task].deadline = deadline;
-            try_changed_job(trial, job, plan)?;
-        }
-    }
-    Ok(())
-}
-
-/// A ready time set to the primary's start, and to one tick more.
-fn try_ready_times(
-    trial: &mut Trial,
-    random: &mut Random,
-    given: &Given,
-    plan: &Plan,
-) -> Result<(), Mismatch> {
-    let task = random.below(plan.rows.len());
-    let start = plan.rows[task].primary.start;
-    for ready in [start, start + 1] {
-        let mut job = Job { version: NEWEST, ..given.job.clone() };
-        job.tasks[task].ready = ready;
-        try_changed_job(trial, job, plan)?;
-    }
-    Ok(())
-}
-
-/// A send time that a result can just afford on its way to a start, and one tick more.
-fn try_send_times(
-    trial: &mut Trial,
-    random: &mut Random,
-    given: &Given,
-    plan: &Plan,
-) -> Result<(), Mismatch> {
-    if given.job.links.is_empty() {
-        return Ok(());
-    }
-    let link = random.pick(&given.job.links);
-    let placed = layout(&given.job, plan);
-    let sender = random.pick(&[placed.primaries[link.from], placed.backups[link.from]]);
-    let receiver = random.pick(&[placed.primaries[link.to], placed.backups[link.to]]);
-    let spare = receiver.start.checked_sub(sender.finish + link.delay);
-    if let Some(spare) = spare.filter(|&spare| spare <= MAX_SEND) {
-        for send in [spare, spare + 1] {
-            let mut job = Job { version: NEWEST, ..given.job.clone() };
-            job.nodes[sender.node].send = send;
-            try_changed_job(trial, job, plan)?;
-        }
-    }
-    Ok(())
-}
-
-/// A job that was changed under its plan.
-fn try_changed_job(trial: &mut Trial, job: Job, plan: &Plan) -> Result<(), Mismatch> {
-    let (given, plan) = (Given::new(job), write_plan(plan));
-    let judged = trial.compare(&given.judge(&plan))?;
-    trial.compare(&given.plan(given.plan_room()))?;
-    trial.compare(&given.replay(&plan, None, given.replay_room()))?;
-    try_sets(trial, &given, &plan, judged)
 }
 
 fn try_plan(
@@ -233,11 +176,10 @@ fn try_plan(
     given: &Given,
     bytes: &[u8],
 ) -> Result<(), Mismatch> {
-    let code = trial.compare(&given.judge(bytes))?;
+    let code = try_judge(trial, given, bytes)?;
     trial.compare(&given.replay(bytes, None, given.replay_room()))?;
     try_replay_rooms(trial, random, given, bytes)?;
     try_rooms(trial, &mut random.aside(), given, bytes)?;
-    try_sets(trial, given, bytes, code)?;
     let Ok(plan) = read_plan(&given.job, bytes) else {
         return Ok(());
     };
@@ -257,13 +199,19 @@ fn try_plan(
 }
 
 fn count_passed(tally: &mut Tally, job: &Job, plan: &Plan) {
-    let weak_path = longest_weak_path(job, &layout(job, plan));
+    let placed = layout(job, plan);
+    let weak_path = longest_weak_path(job, &placed);
     tally.passed += 1;
     tally.passed_deep += u64::from(weak_path >= 2);
     tally.passed_large += u64::from(plan.rows.len() >= 32);
     tally.passed_newly += u64::from(!keeps_rule_e_of_01(job, plan));
     tally.passed_version[job.version as usize - 1] += 1;
     tally.passed_with_ready += u64::from(job.tasks.iter().any(|task| task.ready > 0));
+    let has_drawer = without_drawers(job).is_some();
+    let shares = sharing_backups(&placed).next().is_some();
+    tally.passed_in_drawers += u64::from(has_drawer);
+    tally.shared_in_drawers += u64::from(has_drawer && shares);
+    tally.sent_in_drawer += u64::from(sends_in_drawer(job, &placed));
 }
 
 /// What the ready times do in the run without loss.
@@ -278,7 +226,7 @@ fn count_replay(tally: &mut Tally, job: &Job, plan: &Plan) {
     tally.backup_sooner += u64::from((0..outcomes.len()).any(ran_sooner));
 }
 
-/// Short and long buffers, with the loss of a node that is there and one that is not.
+/// Short and long buffers, with the loss of a group that is there and one that is not.
 fn try_replay_rooms(
     trial: &mut Trial,
     random: &mut Random,
@@ -286,8 +234,8 @@ fn try_replay_rooms(
     plan: &[u8],
 ) -> Result<(), Mismatch> {
     let needed = given.replay_room();
-    let loss =
-        Loss { node: random.below(given.nodes()) as u32, moment: random.between(0, 20) as u32 };
+    let group = random.pick(&given.groups()) as u32;
+    let loss = Loss { group, moment: random.between(0, 20) as u32 };
     if random.percent(2) && given.job.tasks.len() <= 16 {
         for room in 0..=needed + 13 {
             trial.compare(&given.replay(plan, None, room))?;
@@ -296,17 +244,27 @@ fn try_replay_rooms(
     }
     trial.compare(&given.replay(plan, None, some_room(random, needed)))?;
     trial.compare(&given.replay(plan, Some(loss), some_room(random, needed)))?;
-    let missing = Loss { node: missing_node(random, given.nodes() as u32), ..loss };
-    trial.compare(&given.replay(plan, Some(missing), some_room(random, needed)))?;
+    let missing = Loss { group: missing_group(random, &given.job), ..loss };
+    let code = trial.compare(&given.replay(plan, Some(missing), some_room(random, needed)))?;
+    let is_below = number_of(code) == usize::from(NO_SUCH_NODE) && missing.group < given.nodes();
+    trial.tally.missing_below += u64::from(is_below);
     Ok(())
 }
 
-const FAR_NODES: [u32; 13] =
+const FAR_GROUPS: [u32; 13] =
     [16, 17, 31, 32, 64, 255, 256, 65_535, 65_536, 1 << 24, 1 << 31, u32::MAX - 1, u32::MAX];
 
-fn missing_node(random: &mut Random, nodes: u32) -> u32 {
-    let (far, any) = (random.pick(&FAR_NODES), random.draw() as u32);
-    random.pick(&[nodes, nodes, nodes + 1, far, u32::MAX, any]).max(nodes)
+/// A group without a node: as often as not, if there is any, one that could have one.
+fn missing_group(random: &mut Random, job: &Job) -> u32 {
+    let groups = job.groups();
+    let (far, any) = (random.pick(&FAR_GROUPS), random.draw() as u32);
+    let beyond = random.pick(&[far, far, u32::MAX, any.max(MAX_GROUP as u32 + 1)]);
+    let near = (0..=MAX_GROUP).filter(|group| !groups.contains(group));
+    let near: Vec<u32> = near.map(|group| group as u32).collect();
+    let nodes = job.nodes.len() as u32;
+    let next = near.iter().copied().find(|&group| group >= nodes).unwrap_or(beyond);
+    let some = if near.is_empty() { beyond } else { random.pick(&near) };
+    random.pick(&[beyond, beyond, next, some, some])
 }
 
 fn try_damage(
@@ -322,8 +280,9 @@ fn try_damage(
     }
     let faulty = [
         disordered(random, &given.job),
-        ready_at_limit(random, &given.job),
-        send_at_limit(random, &given.job),
+        at_limit(random, &given.job, Newer::Ready),
+        at_limit(random, &given.job, Newer::Send),
+        at_limit(random, &given.job, Newer::Group),
         Some(cut_in_nodes(random, &given.job)),
         Some(renumbered(random, &given.job)),
     ];
@@ -358,8 +317,8 @@ fn try_files(
     plan: &[u8],
 ) -> Result<(), Mismatch> {
     let room = random.pick(&[0, 100, 1_100]);
-    let node = random.pick(&[0, 1, 2, 15, 16, u32::MAX]);
-    let loss = Some(Loss { node, moment: random.between(0, 30) as u32 });
+    let group = random.pick(&[0, 1, 2, 15, 16, u32::MAX]);
+    let loss = Some(Loss { group, moment: random.between(0, 30) as u32 });
     let (whole, lossy) = (Function::Replay(None), Function::Replay(loss));
     let functions = [Function::Judge, Function::Plan, whole, lossy, Function::FaultSets];
     let later = job.first_chunk().is_some_and(|&v| u64::from(u32::from_le_bytes(v)) > NEWEST);

@@ -2,7 +2,7 @@
 
 use std::collections::BTreeSet;
 
-use crate::files::{Job, Link, Place, Plan};
+use crate::files::{Job, Link, Node, Place, Plan};
 use crate::refusal::{
     Refusal, BACKUP_UNFED, COMMON_LOSS, EARLY, LATE, OVERLAP, PRIMARY_UNFED, SAME_NODE, TOO_SOON,
 };
@@ -13,8 +13,9 @@ pub struct Copy {
     pub node: usize,
     pub start: u64,
     pub finish: u64,
-    /// The send time of its node.
+    /// The send time and the supply group of its node.
     pub send: u64,
+    pub group: u64,
 }
 
 /// The copies placed so far, by task. A plan's layout has both copies of every task;
@@ -26,8 +27,9 @@ pub struct Layout {
 }
 
 pub fn copy(job: &Job, task: usize, place: Place) -> Copy {
-    let finish = place.start + job.tasks[task].run[place.node];
-    Copy { node: place.node, start: place.start, finish, send: job.nodes[place.node].send }
+    let Place { node, start } = place;
+    let Node { send, group, .. } = job.nodes[node];
+    Copy { node, start, finish: start + job.tasks[task].run[node], send, group }
 }
 
 pub fn layout(job: &Job, plan: &Plan) -> Layout {
@@ -48,7 +50,7 @@ pub fn in_time(link: &Link, sender: &Copy, receiver: &Copy) -> bool {
     arrival(link, sender, receiver.node) <= receiver.start
 }
 
-/// The copies hold one node, and some tick is held by both.
+/// The copies hold one node, and some tick is held by both. Two nodes of one group are two.
 pub fn overlap(a: &Copy, b: &Copy) -> bool {
     a.node == b.node && a.start < b.finish && b.start < a.finish
 }
@@ -81,8 +83,9 @@ pub fn is_weak(layout: &Layout, link: &Link) -> bool {
     !in_time(link, &layout.backups[link.from], &layout.primaries[link.to])
 }
 
-/// The nodes whose loss may keep a task's primary from finishing (document 01's peril).
-pub type FaultSet = BTreeSet<usize>;
+/// The groups whose loss may keep a task's primary from finishing (document 01's peril, with
+/// groups for nodes by request (vi)).
+pub type FaultSet = BTreeSet<u64>;
 
 /// A task's fault set. It asks only for the copies of lower tasks and the task's own primary.
 pub fn fault_set(job: &Job, layout: &Layout, task: usize) -> FaultSet {
@@ -95,7 +98,14 @@ pub fn fault_set(job: &Job, layout: &Layout, task: usize) -> FaultSet {
             }
         }
     }
-    reached.iter().map(|&task| layout.primaries[task].node).collect()
+    reached.iter().map(|&task| layout.primaries[task].group).collect()
+}
+
+/// The pairs of tasks whose backups share ticks of a node, the lower task first.
+pub fn sharing_backups(layout: &Layout) -> impl Iterator<Item = (usize, usize)> + '_ {
+    let backups = &layout.backups;
+    let pairs = (0..backups.len()).flat_map(|higher| (0..higher).map(move |lower| (lower, higher)));
+    pairs.filter(|&(lower, higher)| overlap(&backups[lower], &backups[higher]))
 }
 
 /// The number of links on the longest path of weak links.
@@ -120,20 +130,20 @@ pub fn judge(job: &Job, plan: &Plan) -> Result<(), Refusal> {
         let broken = job.links.iter().find(|link| !holds(link));
         broken.map_or(Ok(()), |link| Err(Refusal::of_tasks(number, link.from, link.to)))
     };
-    every_task(SAME_NODE, &|task| primaries[task].node != backups[task].node)?;
+    every_task(SAME_NODE, &|task| primaries[task].group != backups[task].group)?;
     every_task(TOO_SOON, &|task| after_ready(job, task, &primaries[task]))?;
     every_task(EARLY, &|task| after_detection(job, &primaries[task], &backups[task]))?;
     every_task(LATE, &|task| backups[task].finish <= job.tasks[task].deadline)?;
     every_link(PRIMARY_UNFED, &|link| primary_fed(&placed, link, &primaries[link.to]))?;
     let fault_sets: Vec<_> = tasks.clone().map(|task| fault_set(job, &placed, task)).collect();
     every_link(BACKUP_UNFED, &|link| backup_fed(&placed, &fault_sets, link, &backups[link.to]))?;
-    every_task(COMMON_LOSS, &|task| !fault_sets[task].contains(&backups[task].node))?;
+    every_task(COMMON_LOSS, &|task| !fault_sets[task].contains(&backups[task].group))?;
     no_overlap(&placed, &fault_sets)
 }
 
-/// Rule G. Once rule A holds, a task's own two copies are on different nodes, so that pairs of
-/// different tasks are all there is to try.
-fn no_overlap(layout: &Layout, fault_sets: &[FaultSet]) -> Result<(), Refusal> {
+/// Rule G. Once rule A holds, a task's own two copies are in different groups and so on different
+/// nodes: pairs of different tasks are all there is to try.
+pub fn no_overlap(layout: &Layout, fault_sets: &[FaultSet]) -> Result<(), Refusal> {
     for lower in 0..fault_sets.len() {
         for higher in lower + 1..fault_sets.len() {
             if tasks_clash(layout, fault_sets, lower, higher) {
@@ -144,7 +154,7 @@ fn no_overlap(layout: &Layout, fault_sets: &[FaultSet]) -> Result<(), Refusal> {
     Ok(())
 }
 
-fn tasks_clash(layout: &Layout, fault_sets: &[FaultSet], a: usize, b: usize) -> bool {
+pub fn tasks_clash(layout: &Layout, fault_sets: &[FaultSet], a: usize, b: usize) -> bool {
     let Layout { primaries, backups } = layout;
     overlap(&primaries[a], &primaries[b])
         || overlap(&primaries[a], &backups[b])
@@ -156,21 +166,25 @@ fn tasks_clash(layout: &Layout, fault_sets: &[FaultSet], a: usize, b: usize) -> 
 mod tests {
     use super::*;
     use crate::earlier::keeps_rule_e_of_01;
-    use crate::files::{Node, Task};
+    use crate::files::Task;
     use crate::replay::{replay, Loss};
-    use crate::samples::{plan_of, Listed};
+    use crate::samples::{nodes_of, plan_of, Listed};
 
     /// Five nodes with detect 0; each task takes one time on all of them.
     fn job_of(runs: &[u64], links: &[(usize, usize, u64)]) -> Job {
         let links = links.iter().map(|&(from, to, delay)| Link { from, to, delay });
         let tasks = runs.iter().map(|&run| Task { ready: 0, deadline: 100, run: vec![run; 5] });
-        let nodes = vec![Node { detect: 0, send: 0 }; 5];
-        Job { version: 1, nodes, tasks: tasks.collect(), links: links.collect() }
+        Job {
+            version: 1,
+            nodes: nodes_of(0, [0; 5]),
+            tasks: tasks.collect(),
+            links: links.collect(),
+        }
     }
 
     /// Demand 3, as far as every task has to be finished.
     fn outlives_any_loss(job: &Job, plan: &Plan) -> bool {
-        let mut losses = (0..5).flat_map(|node| (0..50).map(move |moment| Loss { node, moment }));
+        let mut losses = (0..5).flat_map(|group| (0..50).map(move |moment| Loss { group, moment }));
         losses.all(|loss| replay(job, plan, Some(loss)).iter().all(|task| task.finish > 0))
     }
 

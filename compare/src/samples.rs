@@ -1,12 +1,13 @@
 //! The samples of document 01, starred or not, sample 8 as request (i) of document 02 changes it;
-//! samples for request (ii), and those for requests (iii) to (v), which have files of their own.
+//! samples for request (ii), and those for requests (iii) to (vi), which have files of their own.
 
 use crate::asked_samples;
 use crate::console::{plan_bytes, replay_bytes, Console};
 use crate::files::{write_job, write_plan, Job, Link, Node, Place, Plan, Row, Task, MAX_TIME};
+use crate::group_samples;
 use crate::refusal::{
-    describe, Refusal, COMMON_LOSS, COUNT, EARLY, NO_BACKUP, NO_PRIMARY, OVERLAP, SAME_NODE, SHORT,
-    TOO_SOON, VALUE, VERSION,
+    code_of, describe, Refusal, COMMON_LOSS, COUNT, EARLY, NO_BACKUP, NO_PRIMARY, OVERLAP,
+    SAME_NODE, SHORT, TOO_SOON, VALUE, VERSION,
 };
 use crate::replay::Loss;
 use crate::sent_samples;
@@ -20,12 +21,18 @@ type Written = [u32; 3];
 
 pub const SAMPLE_1: [Listed; 2] = [[0, 0, 1, 5], [0, 4, 1, 9]];
 
+/// Nodes with one detect time and a send time each; each is its own group.
+pub fn nodes_of(detect: u64, send: impl IntoIterator<Item = u64>) -> Vec<Node> {
+    let nodes = (0..).zip(send);
+    nodes.map(|(group, send)| Node { detect, send, group }).collect()
+}
+
 /// The samples' job J, on a number of nodes.
 pub fn job_on(nodes: usize) -> Job {
     let task = |run: u64| Task { ready: 0, deadline: 30, run: vec![run; nodes] };
     Job {
         version: 1,
-        nodes: vec![Node { detect: 1, send: 0 }; nodes],
+        nodes: nodes_of(1, vec![0; nodes]),
         tasks: vec![task(4), task(3)],
         links: vec![Link { from: 0, to: 1, delay: 2 }],
     }
@@ -59,8 +66,13 @@ pub fn with_ready(first: u64, second: u64) -> Job {
 
 /// J in version 3, with a send time for each node.
 pub fn with_send(send: [u64; 3]) -> Job {
-    let nodes = send.map(|send| Node { detect: 1, send }).to_vec();
-    Job { version: 3, nodes, ..job() }
+    Job { version: 3, nodes: nodes_of(1, send), ..job() }
+}
+
+/// J in version 4, with a supply group for each node.
+pub fn with_groups(groups: [u64; 3]) -> Job {
+    let nodes = groups.map(|group| Node { detect: 1, send: 0, group }).to_vec();
+    Job { version: 4, nodes, ..job() }
 }
 
 pub fn plan_of<const N: usize>(rows: [Listed; N]) -> Plan {
@@ -87,7 +99,7 @@ pub const SPARE: usize = 8;
 impl Check<'_> {
     pub fn expect(&mut self, sample: &str, got: u64, expected: Result<(), Refusal>) {
         self.count += 1;
-        let expected = expected.map_or_else(Refusal::code, |()| 0);
+        let expected = code_of(expected);
         if got != expected {
             let (got, expected) = (describe(got), describe(expected));
             self.faults.push(format!("sample {sample}: answered {got}, expected {expected}"));
@@ -102,11 +114,11 @@ impl Check<'_> {
         }
     }
 
-    pub fn judged(
+    pub fn judged<const N: usize>(
         &mut self,
         sample: &str,
         job: &Job,
-        rows: [Listed; 2],
+        rows: [Listed; N],
         expected: Result<(), Refusal>,
     ) {
         let got = (self.console.judge)(&write_job(job), &bytes_of(rows));
@@ -186,6 +198,7 @@ pub fn run(console: &Console) -> (usize, Vec<String>) {
     asked_samples::run(&mut check);
     sent_samples::run(&mut check);
     set_samples::run(&mut check);
+    group_samples::run(&mut check);
     (check.count, check.faults)
 }
 
@@ -197,9 +210,9 @@ fn planner_samples(check: &mut Check) {
     check.planned("10", &without_link(), Ok([[0, 0, 1, 5], [1, 0, 0, 4]]));
 }
 
-/// Node 0 is lost.
+/// Group 0 is lost; in older versions that is node 0.
 pub fn lost(moment: u32) -> Option<Loss> {
-    Some(Loss { node: 0, moment })
+    Some(Loss { group: 0, moment })
 }
 
 fn replay_samples(check: &mut Check) {
@@ -274,7 +287,7 @@ fn ready_replayed(check: &mut Check) {
 
 /// What the reader refuses: other versions, a ready time beyond its limit, a plan in version 2.
 fn ready_unread(check: &mut Check) {
-    for version in [0, 4] {
+    for version in [0, 5] {
         let file = write_job(&Job { version, ..with_ready(0, 0) });
         check.unread(&format!("(ii), version {version}"), &file, Refusal::at(VERSION, 0));
     }

@@ -2,12 +2,12 @@
 
 use crate::asked_samples::{longer, third, Pair, ASKED};
 use crate::bookings::{write_booking, write_description};
-use crate::files::{bytes_of as numbers, write_job, Job, Link, Node, Task, MAX_DETECT, MAX_SEND};
+use crate::files::{bytes_of as numbers, write_job, Job, Link, Task, MAX_DETECT, MAX_SEND};
 use crate::refusal::{
     Refusal, BACKUP_UNFED, COMMON_LOSS, COUNT, NO_BACKUP, PRIMARY_UNFED, SHORT, STALE, VALUE,
 };
 use crate::samples::{
-    bytes_of, job, lost, plan_of, with_ready, with_send, Check, Listed, SAMPLE_1,
+    bytes_of, job, lost, nodes_of, plan_of, with_ready, with_send, Check, Listed, SAMPLE_1,
 };
 
 /// The primary of task 1 stands where the result of task 0 has to be sent to.
@@ -132,7 +132,7 @@ pub fn two_nodes() -> Job {
     let task = |run: [u64; 2]| Task { ready: 0, deadline: 9, run: run.to_vec() };
     Job {
         version: 3,
-        nodes: [2, 0].map(|send| Node { detect: 0, send }).to_vec(),
+        nodes: nodes_of(0, [2, 0]),
         tasks: vec![task([1, 1]), task([3, 1])],
         links: vec![Link { from: 0, to: 1, delay: 0 }],
     }

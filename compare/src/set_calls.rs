@@ -1,5 +1,7 @@
-//! The fault sets of a round's plans: the calls, the states between tasks, and what is counted.
+//! The judge's answer to a round's plans and their fault sets: the calls, the states between tasks,
+//! and what is counted.
 
+use crate::drawers::count_judged;
 use crate::earlier::without_send_times;
 use crate::fault_sets::fault_sets;
 use crate::files::{read_plan, Job};
@@ -28,16 +30,12 @@ pub fn try_rooms(
     Ok(())
 }
 
-/// The sets of a plan to which the judge answered so. Those of the second implementation are
+/// The judge's answer to a plan, and the plan's sets. Those of the second implementation are
 /// gathered task by task too, and what request (v) says has to hold after each of them.
-pub fn try_sets(
-    trial: &mut Trial,
-    given: &Given,
-    bytes: &[u8],
-    judged: u64,
-) -> Result<(), Mismatch> {
+pub fn try_judge(trial: &mut Trial, given: &Given, bytes: &[u8]) -> Result<u64, Mismatch> {
+    let judged = trial.compare(&given.judge(bytes))?;
     if trial.compare(&given.fault_sets(bytes, given.sets_room()))? != 0 {
-        return Ok(());
+        return Ok(judged);
     }
     let plan = read_plan(&given.job, bytes).expect("its sets were found");
     let placed = layout(&given.job, &plan);
@@ -48,11 +46,12 @@ pub fn try_sets(
     let changed = |job: Job| fault_sets(&job, &layout(&job, &plan)) != sets;
     trial.tally.sets_by_send += u64::from(earlier.is_some_and(changed));
     count(&mut trial.tally, &sets, &gathering, judged);
-    Ok(())
+    count_judged(&mut trial.tally, &given.job, &plan, judged);
+    Ok(judged)
 }
 
 fn count(tally: &mut Tally, sets: &[FaultSet], gathering: &Gathering, judged: u64) {
-    let of_at_least = |nodes: usize| sets.iter().filter(|set| set.len() >= nodes).count() as u64;
+    let of_at_least = |groups: usize| sets.iter().filter(|set| set.len() >= groups).count() as u64;
     tally.sets_passed += u64::from(judged == 0);
     tally.sets_refused += u64::from(judged != 0);
     tally.sets_unjudged += u64::from(refused_before_e(judged) && of_at_least(2) > 0);

@@ -2,17 +2,19 @@
 
 use crate::asked_samples::Pair;
 use crate::console::sets_bytes;
-use crate::files::{write_job, Job, Link, Node, Task, MAX_SEND};
+use crate::files::{write_job, Job, Link, Task, MAX_SEND};
 use crate::refusal::{
     Refusal, COMMON_LOSS, COUNT, PRIMARY_UNFED, SHORT, SHORT_BUFFER, TAIL, UNABLE,
 };
-use crate::samples::{bytes_of, job, job_on, with_send, Check, Listed, FILL, SAMPLE_1, SPARE};
+use crate::samples::{
+    bytes_of, job, job_on, nodes_of, with_send, Check, Listed, FILL, SAMPLE_1, SPARE,
+};
 
 /// Nodes with detect 1, tasks that take 2 on each of them, and links with delay 1.
 fn job_of(nodes: usize, tasks: usize, links: &[(usize, usize)]) -> Job {
     Job {
         version: 1,
-        nodes: vec![Node { detect: 1, send: 0 }; nodes],
+        nodes: nodes_of(1, vec![0; nodes]),
         tasks: vec![Task { ready: 0, deadline: 30, run: vec![2; nodes] }; tasks],
         links: links.iter().map(|&(from, to)| Link { from, to, delay: 1 }).collect(),
     }
@@ -28,7 +30,7 @@ pub const CHAINED: [Listed; 3] = [[0, 0, 3, 3], [1, 3, 3, 6], [2, 6, 3, 9]];
 
 impl Check<'_> {
     /// With room for more than the sets. A plan need not pass.
-    fn sets_of<const N: usize>(
+    pub fn sets_of<const N: usize>(
         &mut self,
         sample: &str,
         job: &Job,
@@ -67,13 +69,11 @@ pub fn run(check: &mut Check) {
 /// Two plans that the judge passes. In the second, tasks 0 and 1 both send to 2, and 2 to 3 to 4,
 /// all over weak links.
 fn passed(check: &mut Check) {
-    let judged = (check.console.judge)(&write_job(&chain()), &bytes_of(CHAINED));
-    check.expect("(v), two weak links, judged", judged, Ok(()));
+    check.judged("(v), two weak links, judged", &chain(), CHAINED, Ok(()));
     check.sets_of("(v), two weak links", &chain(), CHAINED, [0b1, 0b11, 0b111]);
     let joined = job_of(6, 5, &[(0, 2), (1, 2), (2, 3), (3, 4)]);
     let rows = [[0, 0, 5, 3], [1, 0, 5, 3], [2, 3, 5, 6], [3, 6, 5, 9], [4, 9, 5, 12]];
-    let judged = (check.console.judge)(&write_job(&joined), &bytes_of(rows));
-    check.expect("(v), paths that join, judged", judged, Ok(()));
+    check.judged("(v), paths that join, judged", &joined, rows, Ok(()));
     let sets = [0b1, 0b10, 0b111, 0b1111, 0b11111];
     check.sets_of("(v), paths that join", &joined, rows, sets);
 }

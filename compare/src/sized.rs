@@ -4,7 +4,9 @@
 use crate::bookings::write_description;
 use crate::console::plan_bytes;
 use crate::descriptions::roomy_task;
-use crate::files::{read_job, write_job, Job, Link, Node, Task, MAX_TIME, READY, SEND, TASKS};
+use crate::files::{
+    read_job, write_job, Job, Link, Node, Task, GROUP, MAX_TIME, READY, SEND, TASKS,
+};
 use crate::foreign::PLAIN;
 use crate::random::Random;
 use crate::replay::Loss;
@@ -29,15 +31,16 @@ pub struct PlannedJob {
 pub fn planned(version: u64, nodes: usize, tasks: usize, links: usize) -> PlannedJob {
     let mut plan = vec![0; plan_bytes(tasks)];
     let planned = (0..1000).find_map(|seed| {
-        let random = &mut Random::new(seed);
-        let job = write_job(&sized_job(random, version, nodes, tasks, links));
-        ((PLAIN.plan)(&job, &mut plan) == 0).then_some(job)
+        let job = sized_job(&mut Random::new(seed), version, nodes, tasks, links);
+        let bytes = write_job(&job);
+        ((PLAIN.plan)(&bytes, &mut plan) == 0).then_some((job, bytes))
     });
-    let job = planned.expect("such jobs are planned more often than not");
+    let (listed, job) = planned.expect("such jobs are planned more often than not");
     assert_eq!((PLAIN.judge)(&job, &plan), 0);
-    // The node of task 0's primary, lost while that runs: much has to be caught up with.
+    // The group of task 0's primary, lost while that runs: much has to be caught up with.
     let number = |at: usize| u32::from_le_bytes([0, 1, 2, 3].map(|byte| plan[at + byte]));
-    let loss = Loss { node: number(8), moment: number(12) + 3 };
+    let group = listed.nodes[number(8) as usize].group as u32;
+    let loss = Loss { group, moment: number(12) + 3 };
     PlannedJob { nodes, tasks, links, job, plan, loss }
 }
 
@@ -86,23 +89,28 @@ pub fn sized_job(
         Task { ready: 0, deadline: MAX_TIME, run }
     };
     let tasks_made = (0..tasks).map(|_| task()).collect();
+    let mut node = |group: u64| Node { detect: random.between(1, 5), send: 0, group };
     let mut job = Job {
         version,
-        nodes: (0..nodes).map(|_| Node { detect: random.between(1, 5), send: 0 }).collect(),
+        nodes: (0..nodes as u64).map(&mut node).collect(),
         tasks: tasks_made,
         links: sized_links(random, tasks, links),
     };
-    set_newer_times(random, &mut job);
+    set_newer(random, &mut job);
     job
 }
 
 /// What newer versions have is drawn last, so that the rest of a job is the same in all of them.
-fn set_newer_times(random: &mut Random, job: &mut Job) {
+/// In a drawer there are two nodes.
+fn set_newer(random: &mut Random, job: &mut Job) {
     if READY.is_in(job.version) {
         job.tasks.iter_mut().for_each(|task| task.ready = random.between(1, MOST_READY));
     }
     if SEND.is_in(job.version) {
         job.nodes.iter_mut().for_each(|node| node.send = random.between(1, MOST_SEND));
+    }
+    if GROUP.is_in(job.version) {
+        job.nodes.iter_mut().for_each(|node| node.group /= 2);
     }
 }
 

@@ -15,7 +15,7 @@ struct Span {
 
 pub struct Survival<'a> {
     job: &'a Job,
-    plan: &'a Plan,
+    pub plan: &'a Plan,
     /// All copies by node, then start.
     spans: Vec<Span>,
 }
@@ -58,11 +58,12 @@ impl<'a> Survival<'a> {
         self.spans.iter().map(|span| span.finish).max().unwrap_or(0)
     }
 
-    /// The moments worth a trial on each node: every start and finish and the tick before.
-    pub fn moments(&self) -> impl Iterator<Item = (usize, u64)> + '_ {
+    /// The moments worth a trial for each group: every start and finish on its nodes and the tick
+    /// before.
+    pub fn moments(&self) -> impl Iterator<Item = (u64, u64)> + '_ {
         self.spans.iter().flat_map(|span| {
             let moments = [span.start.saturating_sub(1), span.start, span.finish - 1, span.finish];
-            moments.map(|moment| (span.node, moment))
+            moments.map(|moment| (self.job.nodes[span.node].group, moment))
         })
     }
 
@@ -149,7 +150,9 @@ mod tests {
     use super::*;
     use crate::console::{replay_bytes, SECOND};
     use crate::files::{write_job, write_plan};
-    use crate::samples::{job, plan_of, with_ready, with_send, without_link, SAMPLE_1};
+    use crate::samples::{
+        job, plan_of, with_groups, with_ready, with_send, without_link, SAMPLE_1,
+    };
 
     fn fault_of(job: &Job, plan: &Plan, loss: Option<Loss>) -> Option<String> {
         let mut rows = vec![0; replay_bytes(job.tasks.len())];
@@ -157,8 +160,8 @@ mod tests {
         Survival::new(job, plan).fault(loss, &rows)
     }
 
-    fn lost(node: u32, moment: u32) -> Option<Loss> {
-        Some(Loss { node, moment })
+    fn lost(group: u32, moment: u32) -> Option<Loss> {
+        Some(Loss { group, moment })
     }
 
     #[test]
@@ -176,6 +179,22 @@ mod tests {
     fn a_common_loss_is_found() {
         let plan = plan_of([[0, 0, 1, 5], [2, 10, 0, 15]]);
         assert!(fault_of(&job(), &plan, lost(0, 3)).is_some_and(|text| text.contains("no copy")));
+    }
+
+    #[test]
+    fn a_loss_of_both_nodes_of_a_drawer_is_found() {
+        // Each node its own, sample 1 has no fault; here node 1 goes with node 0.
+        let (job, plan) = (with_groups([5, 5, 9]), plan_of(SAMPLE_1));
+        assert!(fault_of(&job, &plan, lost(5, 3)).is_some_and(|text| text.contains("no copy")));
+        assert_eq!(fault_of(&with_groups([5, 6, 9]), &plan, lost(5, 3)), None);
+    }
+
+    #[test]
+    fn a_group_is_lost_at_the_moments_of_all_its_nodes() {
+        let (job, plan) = (with_groups([5, 5, 9]), plan_of([[0, 0, 2, 5], [1, 6, 2, 10]]));
+        let survival = Survival::new(&job, &plan);
+        let moments = survival.moments().filter(|&(group, _)| group == 5);
+        assert_eq!(moments.map(|(_, moment)| moment).collect::<Vec<_>>(), [0, 0, 3, 4, 5, 6, 8, 9]);
     }
 
     #[test]

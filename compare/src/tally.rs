@@ -78,6 +78,25 @@ pub struct Tally {
     pub sets_in_reverse: u64,
     pub sets_by_sender: u64,
     pub sets_by_send: u64,
+    pub passed_in_drawers: u64,
+    pub shared_in_drawers: u64,
+    pub planned_by_group: u64,
+    pub one_group_refused: u64,
+    pub refused_by_group: u64,
+    pub judged_by_group: u64,
+    pub rule_a_by_nodes: u64,
+    pub rule_e_by_nodes: u64,
+    pub rule_f_by_nodes: u64,
+    pub rule_g_by_nodes: u64,
+    pub overlap_in_drawer: u64,
+    pub sent_in_drawer: u64,
+    pub fed_without_delay: u64,
+    pub cut_on_two: u64,
+    pub lost_by_nodes: u64,
+    pub missing_below: u64,
+    pub lost_beyond: u64,
+    pub asked_by_group: u64,
+    pub sets_by_group: u64,
 }
 
 /// Something counted: how often it was met, in words, and how often a run of the default count has
@@ -126,7 +145,7 @@ impl Tally {
             (self.passed, 10_000, "passed plans"),
             (self.passed_deep, 1_000, "passed plans with a path of two weak links or more"),
             (self.passed_large, 0, "passed plans of 32 tasks or more"),
-            (self.every_tick, 0, "passed plans with every node lost at every tick"),
+            (self.every_tick, 0, "passed plans with every group lost at every tick"),
             (self.survived, 0, "runs of passed plans held to demand 3"),
             // Request (i).
             (self.passed_newly, 200, "passed plans that rule E of document 01 refused"),
@@ -141,19 +160,21 @@ impl Tally {
         ];
         let counts = counts.into_iter().chain(self.version_counts());
         let counts = counts.chain(self.sequence_counts()).chain(self.send_counts());
-        let counts = counts.chain(self.set_counts());
+        let counts = counts.chain(self.set_counts()).chain(self.group_counts());
         counts.map(|(met, least, words)| Count { met, words, least })
     }
 
     fn version_counts(&self) -> [(u64, u64, &'static str); 2 * NEWEST as usize] {
-        let ([p1, p2, p3], [q1, q2, q3]) = (self.passed_version, self.planned_version);
+        let ([p1, p2, p3, p4], [q1, q2, q3, q4]) = (self.passed_version, self.planned_version);
         [
             (p1, 2_000, "passed plans of version 1 jobs"),
             (p2, 2_000, "passed plans of version 2 jobs"),
             (p3, 2_000, "passed plans of version 3 jobs"),
+            (p4, 2_000, "passed plans of version 4 jobs"),
             (q1, 500, "planned jobs of version 1"),
             (q2, 500, "planned jobs of version 2"),
             (q3, 500, "planned jobs of version 3"),
+            (q4, 500, "planned jobs of version 4"),
         ]
     }
 
@@ -194,11 +215,37 @@ impl Tally {
             (self.sets_passed, 20_000, "calls for the fault sets of a passed plan"),
             (self.sets_refused, 50_000, "calls for the fault sets of a refused plan"),
             (self.sets_unjudged, 20_000, "plans refused before rule E with a set of two or more"),
-            (self.sets_of_two, 150_000, "fault sets of two nodes or more"),
-            (self.sets_of_three, 60_000, "fault sets of three nodes or more"),
+            (self.sets_of_two, 150_000, "fault sets of two groups or more"),
+            (self.sets_of_three, 60_000, "fault sets of three groups or more"),
             (self.sets_in_reverse, 15_000, "plans whose sets go wrong with the links in reverse"),
             (self.sets_by_sender, 40_000, "plans whose sets grow too soon by sending task"),
             (self.sets_by_send, 2_000, "plans whose sets are others with send times 0"),
+        ]
+    }
+
+    /// Request (vi). In a drawer are nodes of one group; by nodes is the reading in which each node
+    /// is its own.
+    fn group_counts(&self) -> [(u64, u64, &'static str); 19] {
+        [
+            (self.passed_in_drawers, 1_000, "passed plans of jobs with a drawer"),
+            (self.shared_in_drawers, 40, "passed plans of such jobs with backups that share time"),
+            (self.planned_by_group, 100, "planned jobs whose plan the drawers moved"),
+            (self.one_group_refused, 30, "jobs of one group, not planned"),
+            (self.refused_by_group, 2_000, "plans refused that pass by nodes"),
+            (self.judged_by_group, 3_000, "plans that are judged otherwise by nodes"),
+            (self.rule_a_by_nodes, 2_500, "plans refused 8 with copies on two nodes of a drawer"),
+            (self.rule_e_by_nodes, 10, "plans refused 12 over a link that rule E by nodes passes"),
+            (self.rule_f_by_nodes, 150, "plans refused 13 for a task that rule F by nodes passes"),
+            (self.rule_g_by_nodes, 150, "plans refused 14 for tasks that rule G by nodes passes"),
+            (self.overlap_in_drawer, 1_500, "passed plans that overlap on two nodes of a drawer"),
+            (self.sent_in_drawer, 250, "passed plans with a delay between nodes of a drawer"),
+            (self.fed_without_delay, 250, "plans refused 11 or 12 by the delay in a drawer"),
+            (self.cut_on_two, 200, "replays with copies cut on two nodes of a drawer"),
+            (self.lost_by_nodes, 25_000, "replays that differ with one node of a drawer lost"),
+            (self.missing_below, 400, "losses refused 18 for a group below the node count"),
+            (self.lost_beyond, 25_000, "losses replayed of a group not below the node count"),
+            (self.asked_by_group, 150, "asked places that the drawers moved"),
+            (self.sets_by_group, 15_000, "plans whose sets are others by nodes"),
         ]
     }
 }

@@ -57,8 +57,8 @@ impl fmt::Display for Call<'_> {
             Function::Judge => write!(f, "judge({job}, {plan})"),
             Function::Plan => write!(f, "plan({job}, {room})"),
             Function::Replay(None) => write!(f, "replay({job}, {plan}, {room})"),
-            Function::Replay(Some(Loss { node, moment })) => {
-                write!(f, "replay_loss({job}, {plan}, node {node}, moment {moment}, {room})")
+            Function::Replay(Some(Loss { group, moment })) => {
+                write!(f, "replay_loss({job}, {plan}, group {group}, moment {moment}, {room})")
             }
             Function::Ask(_) => write!(f, "ask({job}, {plan}, task of {entry} bytes)"),
             Function::Commit(_, plan_room) => {

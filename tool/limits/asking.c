@@ -122,7 +122,7 @@ static void check_task_lengths(void)
 static void check_longest(void)
 {
     static const size_t longest[SEQOPCHI_NEWEST_JOB_VERSION + 1] = {
-        0, 584, 588, 588
+        0, 584, 588, 588, 588
     };
 
     write_planned(TASKS, SEQOPCHI_MAX_TASKS);
@@ -148,8 +148,7 @@ static void expect_full(uint32_t tasks, uint32_t links, uint32_t new_links, int 
     numbers[LINKS] = links;
     write_job();
     check(numbers[LINKS] == links, "too few tasks for so many links");
-    expect(PLAN, ROOM, SEQOPCHI_DONE, 0, 0);
-    memcpy(plan.data, out, plan.length);
+    take_planned();
     numbers[NEW_LINKS] = new_links;
     write_task();
     if (full) {

@@ -11,15 +11,17 @@ static const char *const call_names[CALLS] = {
 };
 
 const char *const field_names[FIELDS] = {
-    "version", "nodes", "detect time", "send time", "tasks", "ready time", "deadline",
-    "run time", "links", "from", "to", "delay", "version of the plan", "rows",
+    "version", "nodes", "detect time", "send time", "supply group", "tasks",
+    "ready time", "deadline", "run time", "links", "from", "to", "delay", "version of the plan", "rows",
     "primary's node", "primary's start", "backup's node", "backup's start",
     "new ready time", "new deadline", "new run time", "new links", "new from",
     "new delay", "new primary's node", "new primary's start", "new backup's node",
     "new backup's start"
 };
 
-const uint32_t since[FIELDS] = { [SEND] = 3, [READY] = 2, [NEW_READY] = 2 };
+const uint32_t since[FIELDS] = {
+    [SEND] = 3, [GROUP] = 4, [READY] = 2, [NEW_READY] = 2
+};
 
 const uint32_t usual[FIELDS] = {
     [NODES] = 3, [DETECT] = 1, [TASKS] = 40, [DEADLINE] = 9999, [RUN] = 4,
@@ -34,7 +36,7 @@ struct file job, plan, task, booking;
 uint8_t out[ROOM], out_plan[ROOM];
 size_t plan_room = ROOM;
 uint32_t places[4];
-uint32_t lost_node, lost_moment;
+uint32_t lost_group, lost_moment;
 unsigned long calls;
 
 static char subject[120]; /* what is checked, for the message */
@@ -59,6 +61,15 @@ void set_number(struct file *f, enum field field, uint32_t number)
         f->data[f->at[field] + i] = (uint8_t)(number >> 8 * i);
 }
 
+void set_nodes(enum field field, const uint32_t *values, uint32_t nodes)
+{
+    for (uint32_t node = 0; node < nodes; node++) {
+        job.at[field] = 8 + SEQOPCHI_NODE_BYTES(version) * (size_t)node
+            + 4 * (size_t)(field - DETECT);
+        set_number(&job, field, values[node]);
+    }
+}
+
 void put(struct file *f, enum field field, uint32_t number)
 {
     check(f->length + 4 < ROOM, "the file is too long for this program");
@@ -72,6 +83,14 @@ static void put_field(struct file *f, enum field field)
 {
     if (numbers[VERSION] >= since[field])
         put(f, field, numbers[field]);
+}
+
+static void put_node(uint32_t node)
+{
+    put_field(&job, DETECT);
+    put_field(&job, SEND);
+    if (numbers[VERSION] >= since[GROUP])
+        put(&job, GROUP, (numbers[GROUP] + node) % (SEQOPCHI_MAX_GROUP + 1));
 }
 
 /* Fewer links than asked for where there are fewer pairs of tasks. */
@@ -97,8 +116,7 @@ void write_job(void)
     put(&job, VERSION, numbers[VERSION]);
     put(&job, NODES, numbers[NODES]);
     for (uint32_t node = 0; node < numbers[NODES]; node++)
-        for (int field = DETECT; field <= SEND; field++)
-            put_field(&job, field);
+        put_node(node);
     put(&job, TASKS, numbers[TASKS]);
     for (uint32_t t = 0; t < numbers[TASKS]; t++) {
         put_field(&job, READY);
@@ -152,12 +170,17 @@ void write_files(enum field field, uint32_t number)
     write_task();
 }
 
-void write_planned(enum field field, uint32_t number)
+void take_planned(void)
 {
-    write_files(field, number);
     expect(PLAN, ROOM, SEQOPCHI_DONE, 0, 0);
     plan.length = SEQOPCHI_PLAN_BYTES(numbers[TASKS]);
     memcpy(plan.data, out, plan.length);
+}
+
+void write_planned(enum field field, uint32_t number)
+{
+    write_files(field, number);
+    take_planned();
 }
 
 void write_rows(uint32_t tasks, const uint32_t *rows)
@@ -184,7 +207,7 @@ uint64_t result_of(enum call call, size_t out_len)
                                out, out_len);
     case LOSS:
         return seqopchi_replay_loss(job.data, job.length, plan.data, plan.length,
-                                    lost_node, lost_moment, out, out_len);
+                                    lost_group, lost_moment, out, out_len);
     case SETS:
         return seqopchi_fault_sets(job.data, job.length, plan.data, plan.length,
                                    out, out_len);
@@ -221,6 +244,15 @@ void expect(enum call call, size_t out_len, unsigned number,
     snprintf(wanted, sizeof wanted, "%u (%s) %lu / %lu", number, seqopchi_word(number),
              (unsigned long)first, (unsigned long)second);
     check_result(same, call, r, wanted);
+}
+
+void expect_outcomes(enum call call, uint32_t task, uint8_t primary, uint8_t backup)
+{
+    const uint8_t *row = out + SEQOPCHI_REPLAY_BYTES(task);
+
+    expect(call, ROOM, SEQOPCHI_DONE, 0, 0);
+    check(row[0] == primary, "another outcome of the primary");
+    check(row[4] == backup, "another outcome of the backup");
 }
 
 int is_marked(const void *output, size_t length)

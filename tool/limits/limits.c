@@ -7,7 +7,7 @@
 
 /* The longest job of each version, from the papers. */
 static const size_t longest[SEQOPCHI_NEWEST_JOB_VERSION + 1] = {
-    0, 10576, 10832, 10896
+    0, 10576, 10832, 10896, 10960
 };
 
 /* Both files read well: judge, ask and commit get to the rules, the others lack
@@ -59,6 +59,7 @@ static const struct limit limits[] = {
     AT_MOST(SEQOPCHI_MAX_LINKS, LINKS, COUNT),
     AT_MOST(SEQOPCHI_MAX_DETECT, DETECT, VALUE),
     AT_MOST(SEQOPCHI_MAX_SEND, SEND, VALUE),
+    AT_MOST(SEQOPCHI_MAX_GROUP, GROUP, VALUE),
     AT_MOST(SEQOPCHI_MAX_TIME, READY, VALUE),
     AT_LEAST(SEQOPCHI_MIN_DEADLINE, DEADLINE, VALUE),
     AT_MOST(SEQOPCHI_MAX_TIME, DEADLINE, VALUE),
@@ -234,17 +235,6 @@ static void check_other_refusals(void)
     write_files(LINKS, 2);
     set_number(&job, TO, 1);
     expect_fault(&job, SEQOPCHI_REFUSED_LINK_ORDER, job.at[FROM]);
-    write_files(NODES, 3);
-    lost_node = 3;
-    expect(LOSS, 0, SEQOPCHI_REFUSED_NO_SUCH_NODE, lost_node, 0);
-}
-
-/* Of the first task. */
-static void expect_outcomes(enum call call, uint8_t primary, uint8_t backup)
-{
-    expect(call, ROOM, SEQOPCHI_DONE, 0, 0);
-    check(out[0] == primary, "another outcome of the primary");
-    check(out[4] == backup, "another outcome of the backup");
 }
 
 /* One task, its primary on node 0 from 0 to 4, which is lost. */
@@ -253,9 +243,9 @@ static void check_outcomes(uint32_t moment, uint8_t primary, uint8_t backup)
     about("enum seqopchi_outcome", "moment", moment);
     write_files(TASKS, 1);
     set_number(&plan, BACKUP_START, 5);
-    lost_node = 0;
+    lost_group = 0;
     lost_moment = moment;
-    expect_outcomes(LOSS, primary, backup);
+    expect_outcomes(LOSS, 0, primary, backup);
 }
 
 /* One task, its primary from 2 to 6, its backup from 7 on, which no ready time holds
@@ -267,7 +257,7 @@ static void check_ready(uint32_t ready, uint8_t primary, uint8_t backup)
     set_number(&job, READY, ready);
     set_number(&plan, PRIMARY_START, 2);
     set_number(&plan, BACKUP_START, 7);
-    expect_outcomes(REPLAY, primary, backup);
+    expect_outcomes(REPLAY, 0, primary, backup);
     expect(PLAN, ROOM, SEQOPCHI_DONE, 0, 0);
     check(out[SEQOPCHI_PLAN_BYTES(0) + 4] == ready, "another start of the primary");
 }
@@ -290,12 +280,15 @@ static void check_version(void)
     check_outcomes(0, SEQOPCHI_NOT_STARTED, SEQOPCHI_FINISHED);
     check_outcomes(3, SEQOPCHI_CUT, SEQOPCHI_FINISHED);
     check_outcomes(4, SEQOPCHI_FINISHED, SEQOPCHI_NOT_STARTED);
+    check_losses();
     check_asking();
     check_sets();
     if (version >= since[READY])
         check_readiness();
     if (version >= since[SEND])
         check_sending();
+    if (version >= since[GROUP])
+        check_groups();
 }
 
 int main(void)

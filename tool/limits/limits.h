@@ -14,7 +14,8 @@ enum call { JUDGE, PLAN, REPLAY, LOSS, SETS, ASK, COMMIT, CALLS };
 
 /* The numbers of a job, of a plan, of a description and of a booking's place. */
 enum field {
-    VERSION, NODES, DETECT, SEND, TASKS, READY, DEADLINE, RUN, LINKS, FROM, TO, DELAY,
+    VERSION, NODES, DETECT, SEND, GROUP, TASKS,
+    READY, DEADLINE, RUN, LINKS, FROM, TO, DELAY,
     PLAN_VERSION, ROWS, PRIMARY, PRIMARY_START, BACKUP, BACKUP_START,
     NEW_READY, NEW_DEADLINE, NEW_RUN, NEW_LINKS, NEW_FROM, NEW_DELAY,
     NEW_PRIMARY, NEW_PRIMARY_START, NEW_BACKUP, NEW_BACKUP_START, FIELDS
@@ -24,7 +25,8 @@ extern const char *const field_names[FIELDS];
 extern const uint32_t since[FIELDS]; /* the first job version that has it */
 
 /* Well inside all limits, with tasks enough for the most links. The rows of the plan
- * are alike and their backups early, so that a rule refuses a plan that reads well. */
+ * are alike and their backups early, so that a rule refuses a plan that reads well. The
+ * groups of the nodes go round from that of node 0. */
 extern const uint32_t usual[FIELDS];
 
 struct file {
@@ -39,7 +41,7 @@ extern struct file job, plan, task, booking;
 extern uint8_t out[ROOM], out_plan[ROOM]; /* of a commit: longer job, longer plan */
 extern size_t plan_room;                  /* how much of out_plan a commit is given */
 extern uint32_t places[4];
-extern uint32_t lost_node, lost_moment;
+extern uint32_t lost_group, lost_moment; /* the group of a node, or its number */
 extern unsigned long calls;
 
 /* Ends the program with the subject and the fault, unless it is fine. */
@@ -47,6 +49,8 @@ void about(const char *name, const char *what, unsigned long number);
 void check(int fine, const char *fault);
 
 void set_number(struct file *f, enum field field, uint32_t number);
+/* A field of the first nodes of the job. */
+void set_nodes(enum field field, const uint32_t *values, uint32_t nodes);
 void put(struct file *f, enum field field, uint32_t number);
 void write_job(void);
 void write_task(void); /* and the booking */
@@ -54,6 +58,7 @@ void write_task(void); /* and the booking */
 void write_files(enum field field, uint32_t number);
 /* The same, and the planner's plan of the job. */
 void write_planned(enum field field, uint32_t number);
+void take_planned(void); /* of the job as it is now */
 /* So many tasks, task 0 linked to the next one or two, and a plan: node and start of
  * primary and backup of each. */
 void write_rows(uint32_t tasks, const uint32_t *rows);
@@ -66,6 +71,10 @@ void expect(enum call call, size_t out_len, unsigned number,
 
 /* Whether a call has left all these bytes as they were. */
 int is_marked(const void *output, size_t length);
+/* In a run with room, what became of the copies of a task. */
+void expect_outcomes(enum call call, uint32_t task, uint8_t primary, uint8_t backup);
+/* These fault sets and nothing behind them, with more room than that. */
+void expect_sets(uint32_t tasks, const uint32_t *sets);
 /* A refusal, by which nothing is written. */
 void expect_kept(enum call call, size_t out_len, unsigned number,
                  size_t first, size_t second);
@@ -79,6 +88,11 @@ void check_asking(void);
 
 /* Send times, in a version that has them. */
 void check_sending(void);
+
+/* Which groups there are to lose, in each version; then groups of several nodes, in a
+ * version that has them. */
+void check_losses(void);
+void check_groups(void);
 
 /* Fault sets: lengths, what is written, and the order of refusals. */
 void check_sets(void);

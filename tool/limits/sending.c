@@ -5,14 +5,11 @@
 
 enum { MOST = SEQOPCHI_MAX_SEND };
 
-/* Of the usual three nodes, from byte 12 on. Their detect time is 1, links have delay 2,
- * and each task runs for 4 ticks. */
+/* Of the usual three nodes. Their detect time is 1, links have delay 2, and each task
+ * runs for 4 ticks. */
 static void set_sends(const uint32_t send[3])
 {
-    for (int node = 0; node < 3; node++) {
-        job.at[SEND] = 12 + SEQOPCHI_NODE_BYTES(version) * (size_t)node;
-        set_number(&job, SEND, send[node]);
-    }
+    set_nodes(SEND, send, 3);
 }
 
 /* Plans of two linked tasks that pass, with a result that arrives just in time. If the
@@ -23,7 +20,7 @@ static void set_sends(const uint32_t send[3])
 static const struct edge {
     uint32_t send[3], sender, rows[8];
     unsigned number, first, second;
-    uint32_t node, moment;
+    uint32_t group, moment;
     uint8_t in_time[2], too_late[2];
     uint8_t sets[2];
 } edges[] = {
@@ -49,15 +46,11 @@ static const struct edge {
       { SEQOPCHI_NOT_STARTED, SEQOPCHI_NOT_STARTED }, { 4, 5 } }
 };
 
-static void expect_outcomes(const struct edge *e, const uint8_t outcomes[2])
+static void expect_run(const struct edge *e, const uint8_t outcomes[2])
 {
-    const uint8_t *row = out + SEQOPCHI_REPLAY_BYTES(1);
-
-    lost_node = e->node;
+    lost_group = e->group;
     lost_moment = e->moment;
-    expect(LOSS, ROOM, SEQOPCHI_DONE, 0, 0);
-    check(row[0] == outcomes[0], "another outcome of the primary");
-    check(row[4] == outcomes[1], "another outcome of the backup");
+    expect_outcomes(LOSS, 1, outcomes[0], outcomes[1]);
 }
 
 static void expect_set(uint8_t set)
@@ -75,12 +68,12 @@ static void check_edge(const struct edge *e)
     write_rows(2, e->rows);
     set_sends(send);
     expect(JUDGE, 0, SEQOPCHI_DONE, 0, 0);
-    expect_outcomes(e, e->in_time);
+    expect_run(e, e->in_time);
     expect_set(e->sets[0]);
     send[e->sender]++;
     set_sends(send);
     expect(JUDGE, 0, e->number, e->first, e->second);
-    expect_outcomes(e, e->too_late);
+    expect_run(e, e->too_late);
     expect_set(e->sets[1]);
 }
 

@@ -1,8 +1,7 @@
 /* Fault sets: lengths, what is written, and the order of refusals. */
 #include "limits.h"
 
-/* These sets and nothing behind them, with more room than that. */
-static void expect_sets(uint32_t tasks, const uint32_t *sets)
+void expect_sets(uint32_t tasks, const uint32_t *sets)
 {
     size_t length = SEQOPCHI_FAULT_SETS_BYTES(tasks);
 

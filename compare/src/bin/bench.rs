@@ -133,6 +133,8 @@ fn cases() -> Vec<Case> {
     cases.extend([0, 128, 256, 512].map(|links| case("by links", 1, 16, 64, links)));
     cases.push(case("maximum, version 2", 2, 16, 64, 512));
     cases.push(case("maximum, version 3", 3, 16, 64, 512));
+    // Nodes are in drawers of two, and a drawer is lost.
+    cases.push(case("maximum, version 4", 4, 16, 64, 512));
     cases
 }
 

@@ -11,13 +11,13 @@ use Rattle.reader.specs.declared.job.Link.{Link}
 use Rattle.reader.specs.declared.plan.Place.{Place}
 use Rattle.reader.specs.declared.plan.Plan.{Plan}
 use Rattle.reader.specs.Limits.{maxNodes, maxLinks}
-use Rattle.reader.specs.Entries.{nodes, tasks, links, task, place}
+use Rattle.reader.specs.Entries.{nodes, tasks, links, group, task, place}
 use Rattle.reader.specs.Sound.{Sound, SoundPlace}
 use Rattle.reader.proofs.Promise.{place-of}
 use Rattle.rules.specs.declared.Description.{Description}
 use Rattle.rules.specs.Description.{newLinks}
 use Rattle.rules.specs.Tables.{put}
-use Rattle.rules.specs.Copies.{copy}
+use Rattle.rules.specs.Copies.{copy, domain}
 use Rattle.rules.specs.Rules.{row, blankRow, plannedRow, rowsTo, faultSet}
 use Rattle.rules.specs.Planner.{placeTask, anywhere}
 use Rattle.rules.specs.Longer.{longerJob}
@@ -32,6 +32,7 @@ use Rattle.planner.specs.declared.task.Pair.{Pair}
 use Rattle.planner.specs.declared.task.Placing.{Placing}
 use Rattle.planner.specs.declared.task.Want.{Want}
 use Rattle.planner.specs.Senders.{Into, Results, Sendable, Sent}
+use Rattle.planner.specs.Faults.{Peers}
 use Rattle.planner.specs.Tasks.{pairRow, attempted, wantOf, Wanted, Bookable, Booked, Departing, departed, ChainedUp}
 use Rattle.planner.proofs.KeepsLaws.{Found}
 use Rattle.planner.proofs.SenderLaws.{sendable}
@@ -58,20 +59,25 @@ module _ (job : Job) (plan : Plan) (into next from delay : List ℕ) (n : ℕ) (
   pub links-few : getD into j 0 ≤ maxLinks
   links-few = into-few job _ _ _ _ (can .sent) j (can .sound) task-of
 
+  -- the group of its primary's node
+  abbrev own : ℕ
+  own = group job (place plan j .«primary_node»)
+
   by-links : Into job next from delay j (getD into j 0)
   by-links = sent-into job _ _ _ _ (can .sent) j (omega (arith, task-of, can .sound .tasks-most))
 
   module _ (cs : Copies) (leave before last : List ℕ) (so-far : StoredTo job plan j cs leave before last) where
-    pub takeable : Takeable next from delay (outOf cs leave) (getD into j 0) (task job j) (place plan j)
+    pub takeable : Takeable next from delay (outOf cs leave) (getD into j 0) (task job j) (place plan j) own
     takeable =
         record {
           primary = copy-fits job (can .sound) j _ _ task-of (fit .primary-node) (fit .primary-start);
           backup = copy-fits job (can .sound) j _ _ task-of (fit .backup-node) (fit .backup-start);
           sending = into-sending job _ _ _ j _ by-links (can .sound) j cs leave before last (so-far .beside);
+          group-most = can .sound .group-most _ (fit .primary-node);
         }
 
     -- its copies are x
-    module _ (x : Pair) (taken : Taken next from delay (outOf cs leave) (getD into j 0) (task job j) (place plan j) x) where
+    module _ (x : Pair) (taken : Taken next from delay (outOf cs leave) (getD into j 0) (task job j) (place plan j) own x) where
       p-found : Found job (x .primary)
       p-found =
           subst (Found job) (sym (taken .primary))
@@ -83,9 +89,10 @@ module _ (job : Job) (plan : Plan) (into next from delay : List ℕ) (n : ℕ) (
           (record { node = fit .backup-node; lasts = omega (arith, fit .backup-able); ends = takeable .backup .ends })
 
       faults-are : faultSet job (rowOf cs) j (x .primary) ≡ has (x .set)
+      unfolding domain
       faults-are =
           sym (into-faults job _ _ _ j _ by-links j cs leave (so-far .beside .leaving) (λ k p e. omega (arith, can .sound .rise k p))
-          (x .primary) (x .set) (taken .set))
+          (x .primary) own (x .set) (sym (ap (λ c. group job (c .node)) (taken .primary))) (taken .set))
 
       pub bookable : Bookable cs j x
       bookable = pair-bookable job j cs leave before last (can .sound) (so-far .beside) task-of x
@@ -114,12 +121,12 @@ module _ (job : Job) (plan : Plan) (into next from delay : List ℕ) (n : ℕ) (
           }
 
 -- the same for another task that is the same one
-module _ (next from delay : List ℕ) (rs : Results) (i : ℕ) (t u : Task) (same : t ≡ u) (x : Place) where
-  takeable-as : Takeable next from delay rs i t x → Takeable next from delay rs i u x
-  takeable-as h = subst (λ v. Takeable next from delay rs i v x) same h
+module _ (next from delay : List ℕ) (rs : Results) (i : ℕ) (t u : Task) (same : t ≡ u) (x : Place) (g : ℕ) where
+  takeable-as : Takeable next from delay rs i t x g → Takeable next from delay rs i u x g
+  takeable-as h = subst (λ v. Takeable next from delay rs i v x g) same h
 
-  taken-as : (r : Pair) → Taken next from delay rs i t x r → Taken next from delay rs i u x r
-  taken-as r h = subst (λ v. Taken next from delay rs i v x r) same h
+  taken-as : (r : Pair) → Taken next from delay rs i t x g r → Taken next from delay rs i u x g r
+  taken-as r h = subst (λ v. Taken next from delay rs i v x g r) same h
 
 -- the longer job: the tasks of the plan are the job's own, and behind them is the new one
 module _ (job : Job) (plan : Plan) (d : Description) (ok : Asking job plan d)
@@ -162,18 +169,23 @@ module _ (job : Job) (plan : Plan) (d : Description) (ok : Asking job plan d)
       pub old-few : getD into j 0 ≤ maxLinks
       old-few = links-few big plan _ _ _ _ _ storing j below
 
+      abbrev its : ℕ
+      its = group job (place plan j .«primary_node»)
+
       same-task : task big j ≡ task job j
       same-task = task-old job d (ok .room) j below
 
       module _ (cs : Copies) (leave before last : List ℕ) (so-far : StoredTo big plan j cs leave before last) where
-        pub old-takeable : Takeable next from delay (outOf cs leave) (getD into j 0) (task job j) (place plan j)
-        old-takeable = takeable-as _ _ _ _ _ _ _ same-task _ (takeable big plan _ _ _ _ _ storing j below cs leave before last so-far)
+        pub old-takeable : Takeable next from delay (outOf cs leave) (getD into j 0) (task job j) (place plan j) its
+        unfolding longerJob
+        old-takeable = takeable-as _ _ _ _ _ _ _ same-task _ _ (takeable big plan _ _ _ _ _ storing j below cs leave before last so-far)
 
-        module _ (x : Pair) (taken : Taken next from delay (outOf cs leave) (getD into j 0) (task job j) (place plan j) x) where
-          big-taken : Taken next from delay (outOf cs leave) (getD into j 0) (task big j) (place plan j) x
-          big-taken = taken-as _ _ _ _ _ _ _ (sym same-task) _ x taken
+        module _ (x : Pair) (taken : Taken next from delay (outOf cs leave) (getD into j 0) (task job j) (place plan j) its x) where
+          big-taken : Taken next from delay (outOf cs leave) (getD into j 0) (task big j) (place plan j) its x
+          big-taken = taken-as _ _ _ _ _ _ _ (sym same-task) _ _ x taken
 
           pub old-bookable : Bookable cs j x
+          unfolding longerJob
           old-bookable = bookable big plan _ _ _ _ _ storing j below cs leave before last so-far x big-taken
 
           pub old-departing : Departing (job .nodes) j x
@@ -187,7 +199,7 @@ module _ (job : Job) (plan : Plan) (d : Description) (ok : Asking job plan d)
 
     -- the new task, beside all of the plan
     module _ (j : ℕ) (cs : Copies) (leave before last : List ℕ) (so-far : StoredTo big plan j cs leave before last)
-        (within : j ≤ tasks job) (all : tasks job ≤ j) (want : Want)
+        (within : j ≤ tasks job) (all : tasks job ≤ j) (peers : List ℕ) (by-group : Peers (job .nodes) (nodes job) peers) (want : Want)
         (asks : want ≡ wantOf (tasks job) (d .task) (job .nodes) (nodes job) (getD into (tasks job) 0)) where
       stored : StoredTo big plan (tasks job) cs leave before last
       stored = let e : j ≡ tasks job = omega arith in subst (λ m. StoredTo big plan m cs leave before last) e so-far
@@ -196,10 +208,14 @@ module _ (job : Job) (plan : Plan) (d : Description) (ok : Asking job plan d)
       unfolding longerJob
       want-is = asks ∙ ap (λ t. wantOf (tasks job) t (job .nodes) (nodes job) (getD into (tasks job) 0)) (sym (task-new job d (ok .room)))
 
-      pub new-wanted : Wanted next from delay cs leave before last want
-      new-wanted = asked big into _ _ _ _ _ _ _ _ big-sound big-sent (stored .beside) new-of want want-is
+      big-peers : Peers (big .nodes) (nodes big) peers
+      unfolding longerJob
+      big-peers = by-group
 
-      pub new-told : (a : Placing) → Told next from delay cs leave before last want a → attempted a ≡ placeNew job plan d
+      pub new-wanted : Wanted next from delay cs leave before last peers want
+      new-wanted = asked big into _ _ _ _ _ _ _ _ big-sound big-sent (stored .beside) new-of peers big-peers want want-is
+
+      pub new-told : (a : Placing) → Told next from delay cs leave before last peers want a → attempted a ≡ placeNew job plan d
       new-told a f =
-          told big into _ _ _ _ _ _ _ _ big-sound big-sent (stored .beside) new-of want want-is a f
+          told big into _ _ _ _ _ _ _ _ big-sound big-sent (stored .beside) new-of peers big-peers want want-is a f
           ∙ ap (λ t. placeTask big (anywhere (tasks job)) (tasks job) t (tasks job)) (stored .is)

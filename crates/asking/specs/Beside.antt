@@ -6,6 +6,7 @@ use Rattle.reader.specs.declared.job.Job.{Job}
 use Rattle.reader.specs.declared.job.Task.{Task}
 use Rattle.reader.specs.declared.plan.Place.{Place}
 use Rattle.reader.specs.declared.plan.Plan.{Plan}
+use Rattle.reader.specs.Limits.{maxGroup}
 use Rattle.reader.specs.Entries.{nodes, tasks, links, task, place}
 use Rattle.reader.specs.Sound.{Sound, SoundPlace}
 use Rattle.rules.specs.declared.Description.{Description}
@@ -25,17 +26,18 @@ use Rattle.planner.specs.Tasks.{Beside}
 abbrev pub PlacesFit : Job → Plan → ℕ → Type 0
 PlacesFit job plan n = (j : ℕ) → j < n → SoundPlace (nodes job) (task job j .run) (place plan j)
 
--- both copies of a place can be taken, and the links to its task walked
-pub record Takeable (next from delay : List ℕ) (rs : Results) (into : ℕ) (t : Task) (x : Place) : Type 0 where
+-- both copies of a place, whose primary is in this group, can be taken, and the links to its task walked
+pub record Takeable (next from delay : List ℕ) (rs : Results) (into : ℕ) (t : Task) (x : Place) (group : ℕ) : Type 0 where
   pub primary : CopyFits t (x .«primary_node») (x .«primary_start»)
   pub backup : CopyFits t (x .«backup_node») (x .«backup_start»)
   pub sending : Sending next from delay rs into
+  pub group-most : group ≤ maxGroup
 
 -- they are taken, with the task's fault set
-pub record Taken (next from delay : List ℕ) (rs : Results) (into : ℕ) (t : Task) (x : Place) (r : Pair) : Type 0 where
+pub record Taken (next from delay : List ℕ) (rs : Results) (into : ℕ) (t : Task) (x : Place) (group : ℕ) (r : Pair) : Type 0 where
   pub primary : r .primary ≡ copyOn t (x .«primary_node») (x .«primary_start»)
   pub backup : r .backup ≡ copyOn t (x .«backup_node») (x .«backup_start»)
-  pub set : Faulted next from delay rs into (r .primary) (r .set)
+  pub set : Faulted next from delay rs into (r .primary) group (r .set)
 
 -- what the table of a plan's first n tasks rests on: the job's links stand by receiver
 pub record Storing (job : Job) (plan : Plan) (into next from delay : List ℕ) (n : ℕ) : Type 0 where

@@ -2,6 +2,7 @@
 use crate::longer::merged_links;
 use copies::table::Copies;
 use judge::tasks::copy_of;
+use planner::faults::by_group;
 use planner::faults::fault_set;
 use planner::senders::by_receiver;
 use planner::task::Pair;
@@ -12,6 +13,7 @@ use planner::task::chain_up;
 use planner::task::place_task;
 use planner::task::send_off;
 use reader::job::Job;
+use reader::job::Node;
 use reader::job::Task;
 use reader::plan::Place;
 use reader::plan::Plan;
@@ -22,7 +24,7 @@ ghost use Rattle.planner.specs.Tasks.{attempted};
 ghost use Rattle.asking.specs.Calls.{Asking};
 ghost use Rattle.asking.specs.Beside.{Takeable, Taken, placeNew};
 
-// Both copies of a task at its place, with its fault set. The chain of the links to it begins at `into`.
+// Both copies of a task at its place, with its fault set. The chain of the links to it begins at `into`; `own` is the primary's node.
 fn pair_at<'l, 'c>(
     next: &'l [u32; Job::MAX_LINKS],
     from: &'l [u32; Job::MAX_LINKS],
@@ -34,17 +36,19 @@ fn pair_at<'l, 'c>(
     into: usize,
     task: Task,
     place: Place,
+    own: Node,
 ) -> Pair
-    requires { ⌜ Takeable (now next) (now from) (now delay) (results (now node) (now finish) (now leave) (now sets)) into task place ⌝ }
+    requires { ⌜ Takeable (now next) (now from) (now delay) (results (now node) (now finish) (now leave) (now sets)) into task place (own .group) ⌝ }
     ensures { λ r. ⌜ Taken (now (next .entry)) (now (from .entry)) (now (delay .entry))
-        (results (now (node .entry)) (now (finish .entry)) (now (leave .entry)) (now (sets .entry))) into task place r ⌝ }
+        (results (now (node .entry)) (now (finish .entry)) (now (leave .entry)) (now (sets .entry))) into task place (own .group) r ⌝ }
 {
-    let primary = copy_of(task, place.primary_node, place.primary_start);
-    let backup = copy_of(task, place.backup_node, place.backup_start);
-    let set = fault_set(next, from, delay, node, finish, leave, sets, into, primary);
+    let p = copy_of(task, place.primary_node, place.primary_start);
+    let b = copy_of(task, place.backup_node, place.backup_start);
+    let group = own.group;
+    let set = fault_set(next, from, delay, node, finish, leave, sets, into, p, group);
     Pair {
-        primary,
-        backup,
+        primary: p,
+        backup: b,
         set,
     }
 }
@@ -56,8 +60,8 @@ pub fn place_new(job: Job, plan: Plan, d: Description) -> Placing
     ensures { λ r. ⌜ attempted r ≡ placeNew job plan d ⌝ }
 {
     let mut into = [0u32; Job::MAX_TASKS];
-    let mut next = [0u32; Job::MAX_LINKS];
-    let mut from = [0u32; Job::MAX_LINKS];
+    let mut nx = [0u32; Job::MAX_LINKS];
+    let mut by = [0u32; Job::MAX_LINKS];
     let mut lag = [0u32; Job::MAX_LINKS];
     let old = job.link_count as usize;
     let new = d.link_count as usize;
@@ -65,14 +69,14 @@ pub fn place_new(job: Job, plan: Plan, d: Description) -> Placing
     let more = d.links;
     let links = merged_links(held, old, more, new);
     let m = old + new;
-    by_receiver(links, m, &mut into, &mut next, &mut from, &mut lag);
+    by_receiver(links, m, &mut into, &mut nx, &mut by, &mut lag);
     let mut on = [0u32; Copies::COUNT];
     let mut go = [0u32; Copies::COUNT];
-    let mut end = [0u32; Copies::COUNT];
+    let mut to = [0u32; Copies::COUNT];
     let mut off = [0u32; Copies::COUNT];
     let mut set = [0u32; Copies::COUNT];
     let mut up = [0usize; Copies::COUNT];
-    let mut top = [0usize; Job::MAX_NODES];
+    let mut hi = [0usize; Job::MAX_NODES];
     let n = job.task_count as usize;
     let tasks = job.tasks;
     let nodes = job.nodes;
@@ -81,13 +85,17 @@ pub fn place_new(job: Job, plan: Plan, d: Description) -> Placing
         let at = into[j] as usize;
         let task = tasks[j];
         let place = plan.places[j];
-        let pair = pair_at(&next, &from, &lag, &on, &end, &off, &set, at, task, place);
-        book(&mut on, &mut go, &mut end, &mut set, j, pair);
+        let p = place.primary_node as usize;
+        let own = nodes[p];
+        let pair = pair_at(&nx, &by, &lag, &on, &to, &off, &set, at, task, place, own);
+        book(&mut on, &mut go, &mut to, &mut set, j, pair);
         send_off(&mut off, nodes, j, pair);
-        chain_up(&mut up, &mut top, j, pair);
+        chain_up(&mut up, &mut hi, j, pair);
         j += 1;
     }
     let count = job.node_count as usize;
+    let mut kin = [0u32; Copies::COUNT];
+    by_group(nodes, count, &mut kin);
     let w = Want::of(n, d.task, nodes, count, into[n] as usize);
-    place_task(&next, &from, &lag, &on, &go, &end, &off, &set, &up, &top, w)
+    place_task(&nx, &by, &lag, &on, &go, &to, &off, &set, &up, &hi, &kin, w)
 }

@@ -11,17 +11,15 @@ use native.Mathlib.Decide.{decLt}
 use native.Mathlib.Nat.{not-suc-le-zero}
 use native.Mathlib.Omega.{arith}
 use Rattle.reader.specs.declared.job.Job.{Job}
-use Rattle.reader.specs.Limits.{maxNodes}
-use Rattle.reader.specs.Entries.{nodes}
 use Rattle.reader.specs.Tests.{_and_}
 use Rattle.reader.specs.First.{every}
 use Rattle.reader.proofs.TestLaws.{split, clash, below-suc, and-i, and-l, and-r, not-i, not-e, same-test}
 use Rattle.reader.proofs.FirstLaws.{every-i, every-e, every-same}
 use Rattle.rules.specs.declared.Copy.{Copy}
-use Rattle.rules.specs.Copies.{overlap}
+use Rattle.rules.specs.Copies.{overlap, domains}
 use Rattle.rules.specs.Rules.{Row, ruleGPrimary, ruleGBackup}
 use Rattle.copies.specs.declared.table.Copies.{Copies}
-use Rattle.copies.specs.Sets.{has, meets, everyNode}
+use Rattle.copies.specs.Sets.{has, meets, everyGroup}
 use Rattle.copies.specs.Table.{nodeAt, entry, setAt, rowOf, Held}
 use Rattle.copies.specs.Chain.{lastOf, Chain}
 use Rattle.copies.specs.Clash.{clashes, free, Hits, untilOf, lateOf, boundOf, latest}
@@ -259,29 +257,29 @@ clashes-is m c e z p q =
     (λ n. rw n)
 
 -- a copy of task j against the tasks before it
-module _ (job : Job) (cs : Copies) (j : ℕ) (few : nodes job ≤ maxNodes) (held : Held job j cs) (c : Copy) (lasts : c .start < c .finish) where
+module _ (job : Job) (cs : Copies) (j : ℕ) (held : Held job j cs) (c : Copy) (lasts : c .start < c .finish) where
   meets-only : (m k : ℕ) → k < 2 * j → meets (setAt cs k) m ≡ true → clashes m c (entry cs k) (setAt cs k) ≡ overlap (entry cs k) c
   meets-only m k p s =
       clashes-is m c (entry cs k) (setAt cs k) (held .lasts k p) lasts ∙ ap (λ b. overlap (entry cs k) c and b) s ∙ and-yes _
 
-  pub free-primary : free cs everyNode c (2 * j) ≡ every j (λ i. ruleGPrimary (rowOf cs i) c)
+  pub free-primary : free cs everyGroup c (2 * j) ≡ every j (λ i. ruleGPrimary (rowOf cs i) c)
   unfolding free ruleGPrimary rowOf
   free-primary =
       pairs j _ ∙ every-same j _ _ λ i p.
       ap₂ (λ x y. not x and not y)
-      (meets-only everyNode (2 * i) (omega arith)
-      (rw (held .primary-set i p) (meets-i everyNode everyNode 0 (has-every 0 (omega arith)) (has-every 0 (omega arith)))))
-      (meets-only everyNode (2 * i + 1) (omega arith)
-      (meets-i _ everyNode (entry cs (2 * i) .node) (held .own i p) (has-every _ (omega (arith, held .node (2 * i) (omega arith))))))
+      (meets-only everyGroup (2 * i) (omega arith)
+      (rw (held .primary-set i p) (meets-i everyGroup everyGroup 0 (has-every 0 (omega arith)) (has-every 0 (omega arith)))))
+      (meets-only everyGroup (2 * i + 1) (omega arith)
+      (meets-i _ everyGroup _ (held .own i p) (has-every _ (omega (arith, held .within i _ p (held .own i p))))))
 
   -- of a backup, whose fault set holds `own`
-  module _ (m own : ℕ) (s : Row) (b : s .backup ≡ c) (is : has m ≡ s .faults) (at : own < nodes job) (here : has m own ≡ true) where
+  module _ (m own : ℕ) (s : Row) (b : s .backup ≡ c) (is : has m ≡ s .faults) (at : own < domains job) (here : has m own ≡ true) where
     pub free-backup : free cs m c (2 * j) ≡ every j (λ i. ruleGBackup job (rowOf cs i) s)
     unfolding free ruleGBackup rowOf
     free-backup =
         pairs j _ ∙ every-same j _ _ λ i p.
         ap₂ (λ x y. not x and not y)
-        (meets-only m (2 * i) (omega arith) (rw (held .primary-set i p) (meets-i everyNode m own (has-every own (omega arith)) here))
+        (meets-only m (2 * i) (omega arith) (rw (held .primary-set i p) (meets-i everyGroup m own (has-every own (omega arith)) here))
         ∙ ap (overlap (entry cs (2 * i))) (sym b))
         (clashes-is m c (entry cs (2 * i + 1)) (setAt cs (2 * i + 1)) (held .lasts (2 * i + 1) (omega arith)) lasts
         ∙ ap₂ (λ x y. x and y) (ap (overlap (entry cs (2 * i + 1))) (sym b)) (share-is job cs j held m s is i p))

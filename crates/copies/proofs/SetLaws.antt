@@ -14,7 +14,7 @@ use Rattle.reader.specs.Tests.{_and_, _or_}
 use Rattle.reader.specs.First.{_or-else_, first, unless, any, every}
 use Rattle.reader.proofs.TestLaws.{split, clash, and-l, and-r, and-i, not-true}
 use Rattle.reader.proofs.FirstLaws.{every-e, any-i, any-e}
-use Rattle.copies.specs.Sets.{has, meets, everyNode}
+use Rattle.copies.specs.Sets.{has, meets, everyGroup}
 
 -- the digit at place n
 abbrev digit : ℕ → ℕ → ℕ
@@ -94,9 +94,9 @@ has-one k n =
 pub shifted : (w n : ℕ) → n < w → (1 * 2 ^ n) % 2 ^ w ≡ 2 ^ n
 shifted w n h = shl-exact 1 n w (omega arith) (omega arith) ∙ one-mul (2 ^ n)
 
-pub has-every : (n : ℕ) → n < 32 → has everyNode n ≡ true
+pub has-every : (n : ℕ) → n < 32 → has everyGroup n ≡ true
 unfolding has every first unless _or-else_
-has-every n p = every-e 32 (has everyNode) refl n p
+has-every n p = every-e 32 (has everyGroup) refl n p
 
 -- a set with no member is empty
 half : (x n : ℕ) → digit (x / 2) n ≡ digit x (1 + n)

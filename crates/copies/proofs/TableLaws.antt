@@ -8,7 +8,7 @@ use native.Mathlib.Omega.{arith}
 use Rattle.reader.specs.declared.job.Job.{Job}
 use Rattle.reader.specs.Tests.{_and_}
 use Rattle.reader.specs.First.{any}
-use Rattle.reader.specs.Entries.{nodes}
+use Rattle.rules.specs.Copies.{domains}
 use Rattle.rules.specs.declared.Copy.{Copy}
 use Rattle.rules.specs.Rules.{Row, blankRow, shareFault}
 use Rattle.copies.specs.declared.table.Copies.{Copies}
@@ -70,5 +70,5 @@ pub share-is : (job : Job) (cs : Copies) (n : ℕ) → Held job n cs → (m : �
     → (i : ℕ) → i < n → meets (setAt cs (2 * i + 1)) m ≡ shareFault job (rowOf cs i) s
 unfolding shareFault rowOf
 share-is job cs n held m s is i p =
-    subst (λ f. meets (setAt cs (2 * i + 1)) m ≡ any (nodes job) (λ q. has (setAt cs (2 * i + 1)) q and f q)) is
-    (meets-any (nodes job) (setAt cs (2 * i + 1)) m (λ q. held .within i q p))
+    subst (λ f. meets (setAt cs (2 * i + 1)) m ≡ any (domains job) (λ q. has (setAt cs (2 * i + 1)) q and f q)) is
+    (meets-any (domains job) (setAt cs (2 * i + 1)) m (λ q. held .within i q p))

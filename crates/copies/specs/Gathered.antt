@@ -14,7 +14,7 @@ use Rattle.reader.specs.Entries.{tasks, links, link}
 use Rattle.reader.specs.Sound.{Sound}
 use Rattle.rules.specs.Rules.{Row, strong, rows}
 use Rattle.rules.specs.Gathering.{gatheredTo}
-use Rattle.copies.specs.Sets.{has, everyNode}
+use Rattle.copies.specs.Sets.{has, everyGroup}
 use Rattle.copies.specs.Table.{copyCount}
 
 -- q is in the set x, or in the fault set of a member of weak
@@ -31,10 +31,10 @@ weakLink job t i j k =
 abbrev pub ArrivesFrom : Job → Plan → ℕ → ℕ → Type 0
 ArrivesFrom job plan j weak = (i : ℕ) → has weak i ≡ any (links job) (weakLink job (rows job plan) i j)
 
--- the table's sets once tasks 0 to j - 1 are gathered; a primary's is every node
+-- the table's sets once tasks 0 to j - 1 are gathered; a primary's is every group
 pub record SetsTo (job : Job) (plan : Plan) (j : ℕ) (sets : List ℕ) : Type 0 where
   pub size : length sets ≡ copyCount
-  pub primary : (i : ℕ) → i < tasks job → getD sets (2 * i) 0 ≡ everyNode
+  pub primary : (i : ℕ) → i < tasks job → getD sets (2 * i) 0 ≡ everyGroup
   pub faults : (i q : ℕ) → i < tasks job → has (getD sets (2 * i + 1) 0) q ≡ gatheredTo job plan j i q
 
 -- r gathers task j, whose set so far is x, of every job and plan that read well: before it the sets are those gathered to j, and with r as

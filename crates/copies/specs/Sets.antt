@@ -12,6 +12,6 @@ has s n = eqb (s / 2 ^ n % 2) 1
 unfoldable pub meets : ℕ → ℕ → Bool
 meets a b = not (eqb (bitAnd a b) 0)
 
--- every node
-abbrev pub everyNode : ℕ
-everyNode = 4294967295
+-- every group
+abbrev pub everyGroup : ℕ
+everyGroup = 4294967295

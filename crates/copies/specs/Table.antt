@@ -8,9 +8,10 @@ use Rattle.reader.specs.declared.job.Job.{Job}
 use Rattle.reader.specs.Limits.{maxTasks, maxStart, maxTime}
 use Rattle.reader.specs.Entries.{nodes}
 use Rattle.rules.specs.declared.Copy.{Copy}
+use Rattle.rules.specs.Copies.{domain, domains}
 use Rattle.rules.specs.Rules.{Row}
 use Rattle.copies.specs.declared.table.Copies.{Copies}
-use Rattle.copies.specs.Sets.{has, everyNode}
+use Rattle.copies.specs.Sets.{has, everyGroup}
 
 -- how many entries the table has
 abbrev pub copyCount : ℕ
@@ -56,7 +57,7 @@ pub record Held (job : Job) (j : ℕ) (cs : Copies) : Type 0 where
   pub node : (k : ℕ) → k < 2 * j → entry cs k .node < nodes job
   pub lasts : (k : ℕ) → k < 2 * j → entry cs k .start < entry cs k .finish
   pub ends : (k : ℕ) → k < 2 * j → entry cs k .finish ≤ maxStart + maxTime
-  -- a primary's set is every node; a fault set has the primary's node, and nodes of the job only
-  pub primary-set : (i : ℕ) → i < j → setAt cs (2 * i) ≡ everyNode
-  pub own : (i : ℕ) → i < j → has (setAt cs (2 * i + 1)) (entry cs (2 * i) .node) ≡ true
-  pub within : (i q : ℕ) → i < j → has (setAt cs (2 * i + 1)) q ≡ true → q < nodes job
+  -- a primary's set is every group; a fault set has the group of the primary's node, and groups only
+  pub primary-set : (i : ℕ) → i < j → setAt cs (2 * i) ≡ everyGroup
+  pub own : (i : ℕ) → i < j → has (setAt cs (2 * i + 1)) (domain job (entry cs (2 * i) .node)) ≡ true
+  pub within : (i q : ℕ) → i < j → has (setAt cs (2 * i + 1)) q ≡ true → q < domains job

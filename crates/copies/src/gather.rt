@@ -6,7 +6,7 @@ ghost use Prim.Native.Nat.{ℕ};
 ghost use Rattle.copies.specs.Sets.{has};
 ghost use Rattle.copies.specs.Gathered.{joined, Gathers};
 
-// Gathers one task: its set so far, its own primary's node, with the sets of the tasks in `weak`, from which weak links arrive at it. The set is
+// Gathers one task: its set so far, its own primary's group, with the sets of the tasks in `weak`, from which weak links arrive at it. The set is
 // handed back, not stored: the planner needs it before it has a row to store.
 pub fn gather_task(sets: &[u32; Copies::COUNT], so_far: u32, weak: u64) -> u32
     ensures { λ r. ⌜ ((q : ℕ) → has r q ≡ joined «so_far» weak (now (sets .entry)) q) ⌝ }

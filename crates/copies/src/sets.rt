@@ -1,13 +1,13 @@
-// Sets of nodes and of tasks: the bits of a number.
+// Sets of groups, of nodes and of tasks: the bits of a number.
 ghost use mathlib.Core.Bool.{cond};
 ghost use mathlib.Core.Path.{_≡_};
 ghost use Prim.Native.Nat.{_^_, _<_};
 ghost use Rattle.copies.specs.Sets.{has};
 
-// The set of every node.
+// The set of every group.
 pub const ALL: u32 = 4294967295;
 
-pub fn bit_of_node(n: u32) -> u32
+pub fn bit_of(n: u32) -> u32
     requires { ⌜ n < 32 ⌝ }
     ensures { λ r. ⌜ r ≡ 2 ^ n ⌝ }
 {
@@ -21,7 +21,7 @@ pub fn bit_of_task(i: usize) -> u64
     1 << i
 }
 
-pub fn holds_node(set: u32, n: u32) -> bool
+pub fn holds(set: u32, n: u32) -> bool
     requires { ⌜ n < 32 ⌝ }
     ensures { λ r. ⌜ r ≡ has set n ⌝ }
 {

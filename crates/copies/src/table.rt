@@ -6,7 +6,7 @@ ghost use Prim.Native.Nat.{_<_};
 ghost use mathlib.Core.List.{[]};
 ghost use Rattle.copies.specs.Table.{copyCount, table, entry, Whole, Stored};
 
-// The four arrays, which contracts name together and code lends one by one. A backup's set is its task's fault set, a primary's is every node, so
+// The four arrays, which contracts name together and code lends one by one. A backup's set is its task's fault set, a primary's is every group, so
 // that one clash test serves both.
 pub struct Copies {
     pub node: [u32; Copies::COUNT],

@@ -10,9 +10,10 @@ use lib.ListN.{getD}
 use lib.Pow.{pow-mono}
 use Rattle.reader.specs.declared.job.Job.{Job}
 use Rattle.reader.specs.declared.plan.Plan.{Plan}
-use Rattle.reader.specs.Entries.{nodes, tasks}
+use Rattle.reader.specs.Entries.{tasks}
 use Rattle.reader.specs.Sound.{Sound, PlanSound}
 use Rattle.reader.proofs.TestLaws.{not-true}
+use Rattle.rules.specs.Copies.{domains}
 use Rattle.rules.specs.Rules.{rows}
 use Rattle.rules.specs.Paths.{InFaultSet}
 use Rattle.rules.specs.Gathering.{faultNumber}
@@ -25,33 +26,30 @@ use Rattle.copies.proofs.NumberLaws.{number-is, number-has, number-below}
 use Rattle.judge.proofs.PlanLaws.{faults-low}
 
 -- a number of 4 bytes
-pub fault-number-fits : (job : Job) (plan : Plan) → Sound job → (j : ℕ) → faultNumber job plan j < 2 ^ 32
+pub fault-number-fits : (job : Job) (plan : Plan) (j : ℕ) → faultNumber job plan j < 2 ^ 32
 unfolding faultNumber
-fault-number-fits job plan sound j =
-    let below = number-below (nodes job) (rows job plan j .faults) in
-    let most : 2 ^ nodes job ≤ 2 ^ 32 = pow-mono {i = nodes job} {j = 32} (omega (arith, sound .nodes-most)) in
-    omega arith
+fault-number-fits job plan j = omega (arith, number-below (domains job) (rows job plan j .faults))
 
 module _ (job : Job) (plan : Plan) (sound : Sound job) (reads : PlanSound job plan) (j : ℕ) (low : j < tasks job) where
-  -- no node of another rack is in a fault set
-  none-beyond : (q : ℕ) → nodes job ≤ q → rows job plan j .faults q ≡ false
+  -- nothing but groups is in a fault set
+  none-beyond : (q : ℕ) → domains job ≤ q → rows job plan j .faults q ≡ false
   none-beyond q high = not-true _ λ h. let b = faults-low job plan sound reads (tasks job) j q low (omega arith) h in omega arith
 
   pub fault-number : (sets : List ℕ) → SetsTo job plan (tasks job) sets → getD sets (2 * j + 1) 0 ≡ faultNumber job plan j
   unfolding faultNumber
   fault-number sets filled =
-      number-is (nodes job) _ (rows job plan j .faults) (λ q. all-gathered job plan sets filled j q low) none-beyond
+      number-is (domains job) _ (rows job plan j .faults) (λ q. all-gathered job plan sets filled j q low) none-beyond
 
   -- bit q says whether q is in the fault set of document 01, by paths of weak links
   bit-is : (q : ℕ) → has (faultNumber job plan j) q ≡ rows job plan j .faults q
   unfolding faultNumber
   bit-is q =
-      elim (decLt q (nodes job)) [
-        | yes p ↦ number-has (nodes job) q (rows job plan j .faults) p
+      elim (decLt q (domains job)) [
+        | yes p ↦ number-has (domains job) q (rows job plan j .faults) p
         | no p ↦
-            let high : nodes job ≤ q = omega arith in
+            let high : domains job ≤ q = omega arith in
             not-true _ (λ h. let part = has-part _ q h in let most = pow-mono high in
-            let below = number-below (nodes job) (rows job plan j .faults) in omega arith)
+            let below = number-below (domains job) (rows job plan j .faults) in omega arith)
             ∙ sym (none-beyond q high)
       ]
 

@@ -12,17 +12,17 @@ use borrow.Author.Tests.{ltb-true, lt-ltb, le-ltb, eq-eqb, ne-eqb}
 use Rattle.reader.specs.declared.job.Job.{Job}
 use Rattle.reader.specs.declared.refusal.Refusal.the-variants.{Overlap}
 use Rattle.reader.specs.Limits.{maxNodes}
-use Rattle.reader.specs.Entries.{nodes, tasks}
+use Rattle.reader.specs.Entries.{tasks}
 use Rattle.reader.specs.Tests.{_and_, _implies_}
 use Rattle.reader.specs.First.{first, unless, every}
 use Rattle.reader.proofs.TestLaws.{split, and-i, and-l, and-r, imp-i, imp-fails}
 use Rattle.reader.proofs.FirstLaws.{first-none, first-same, none-unless, every-e, every-more, every-start}
 use Rattle.rules.specs.declared.Copy.{Copy}
-use Rattle.rules.specs.Copies.{overlap}
+use Rattle.rules.specs.Copies.{overlap, domain}
 use Rattle.rules.specs.Rules.{ruleG, ruleGPrimary, ruleGBackup}
 use Rattle.rules.specs.Judge.{firstPair}
 use Rattle.copies.specs.declared.table.Copies.{Copies}
-use Rattle.copies.specs.Sets.{has, meets, everyNode}
+use Rattle.copies.specs.Sets.{has, meets, everyGroup}
 use Rattle.copies.specs.Table.{copyCount, nodeAt, entry, setAt, rowOf, Held}
 use Rattle.copies.specs.Chain.{Chain, Chained, Joins}
 use Rattle.copies.specs.Clash.{clashes, free, boundOf}
@@ -142,7 +142,7 @@ none-found cs n r e h =
     apart-from j k f i p = and-i _ _ (every-e (2 * j) _ f (2 * i) (omega arith)) (every-e (2 * j) _ f (2 * i + 1) (omega arith))
 
 -- the pairs are those of the rule
-module _ (job : Job) (cs : Copies) (few : nodes job ≤ maxNodes) (held : Held job (tasks job) cs) where
+module _ (job : Job) (cs : Copies) (held : Held job (tasks job) cs) where
   -- sets that meet: an overlap is a clash
   meeting : (a k : ℕ) → a < 2 * tasks job → k < 2 * tasks job → meets (setAt cs a) (setAt cs k) ≡ true
       → clashes (setAt cs k) (entry cs k) (entry cs a) (setAt cs a) ≡ overlap (entry cs a) (entry cs k)
@@ -150,8 +150,8 @@ module _ (job : Job) (cs : Copies) (few : nodes job ≤ maxNodes) (held : Held j
       clashes-is (setAt cs k) (entry cs k) (entry cs a) (setAt cs a) (held .lasts a p) (held .lasts k q)
       ∙ ap (λ b. overlap (entry cs a) (entry cs k) and b) m ∙ and-yes _
 
-  on-rack : (i : ℕ) → i < tasks job → has everyNode (entry cs (2 * i) .node) ≡ true
-  on-rack i p = has-every _ (omega (arith, held .node (2 * i) (omega arith)))
+  in-every : (i : ℕ) → i < tasks job → has everyGroup (domain job (entry cs (2 * i) .node)) ≡ true
+  in-every i p = has-every _ (omega (arith, held .within i _ p (held .own i p)))
 
   module _ (i j : ℕ) (rises : i < j) (low : j < tasks job) where
     pub pair-is : pairApart cs i j ≡ ruleG job (rowOf cs i) (rowOf cs j)
@@ -161,10 +161,10 @@ module _ (job : Job) (cs : Copies) (few : nodes job ≤ maxNodes) (held : Held j
         ap₂ _and_
         (ap₂ (λ x y. not x and not y)
         (meeting (2 * i) (2 * j) (omega arith) (omega arith)
-        (rw (held .primary-set i pi, held .primary-set j low) (meets-i everyNode everyNode 0 (has-every 0 (omega arith)) (has-every 0 (omega arith)))))
-        (meeting (2 * i + 1) (2 * j) (omega arith) (omega arith) (rw (held .primary-set j low) (meets-i _ everyNode _ (held .own i pi) (on-rack i pi)))))
+        (rw (held .primary-set i pi, held .primary-set j low) (meets-i everyGroup everyGroup 0 (has-every 0 (omega arith)) (has-every 0 (omega arith)))))
+        (meeting (2 * i + 1) (2 * j) (omega arith) (omega arith) (rw (held .primary-set j low) (meets-i _ everyGroup _ (held .own i pi) (in-every i pi)))))
         (ap₂ (λ x y. not x and not y)
-        (meeting (2 * i) (2 * j + 1) (omega arith) (omega arith) (rw (held .primary-set i pi) (meets-i everyNode _ _ (on-rack j low) (held .own j low))))
+        (meeting (2 * i) (2 * j + 1) (omega arith) (omega arith) (rw (held .primary-set i pi) (meets-i everyGroup _ _ (in-every j low) (held .own j low))))
         (clashes-is _ _ _ _ (held .lasts (2 * i + 1) (omega arith)) (held .lasts (2 * j + 1) (omega arith))
         ∙ ap (λ b. overlap (entry cs (2 * i + 1)) (entry cs (2 * j + 1)) and b) (share-is job cs (tasks job) held _ (rowOf cs j) refl i pi)))
 

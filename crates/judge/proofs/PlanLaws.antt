@@ -23,11 +23,12 @@ use Rattle.reader.specs.Sound.{Sound, PlanSound}
 use Rattle.reader.proofs.TestLaws.{split, clash}
 use Rattle.reader.proofs.FirstLaws.{first-same, first-none, none-unless, any-same}
 use Rattle.rules.specs.declared.Copy.{Copy}
-use Rattle.rules.specs.Copies.{copy, inTime, domain}
+use Rattle.rules.specs.Copies.{copy, inTime, domain, domains}
 use Rattle.rules.specs.Rules.{Row, strong, rows, ruleE, ruleF}
 use Rattle.rules.specs.Waits.{waitsForBoth}
 use Rattle.rules.specs.Judge.{firstTask, firstLink, judge}
-use Rattle.rules.specs.Gathering.{ownNode}
+use Rattle.rules.specs.Gathering.{ownGroup}
+use Rattle.rules.proofs.DomainLaws.{domain-below}
 use Rattle.rules.proofs.FaultSetLaws.{from-low, faults-here, faults-e, rows-faults, row-primary, row-backup}
 use Rattle.rules.proofs.GatheringLaws.{gathered-none}
 use Rattle.rules.proofs.Waits.{both-keeps}
@@ -45,7 +46,7 @@ use Rattle.judge.specs.Tasks.{CopyFits, Copied, TasksJudged}
 use Rattle.judge.specs.Links.{linked, Timed, WeakTo, sure, SureBut, LinksJudged}
 use Rattle.judge.specs.declared.links.Walked.{Walked}
 use Rattle.judge.specs.Backups.{linkFeeds, backupBreach, Unsure}
-use Rattle.judge.specs.Faults.{Receiving, GathersAll, Low, lossBreach}
+use Rattle.judge.specs.Faults.{Receiving, GathersAll, Low, Grouped, lossBreach}
 use Rattle.judge.specs.Overlaps.{faultBreach}
 use Rattle.judge.proofs.ScanLaws.{done-none, after, stop}
 use Rattle.judge.proofs.PartLaws.{breach-parts, links-same, backups-same, faults-same}
@@ -75,14 +76,15 @@ module _ (job : Job) (plan : Plan) (sound : Sound job) (reads : PlanSound job pl
   unfolding copy
   able j n s q r fits = record { on = q; lasts = omega arith; ends = fits .ends }
 
-  -- a fault set has nodes of the job only
-  pub faults-low : (n j q : ℕ) → j < n → n ≤ tasks job → t j .faults q ≡ true → q < nodes job
-  unfolding domain copy
+  -- a fault set has groups only
+  pub faults-low : (n j q : ℕ) → j < n → n ≤ tasks job → t j .faults q ≡ true → q < domains job
+  unfolding copy
   faults-low zero j q b p h = absurd (not-suc-le-zero b)
   faults-low (suc n) j q b p h =
       let low : j < tasks job = omega arith in
       faults-e job t j (t j .primary) q (sym (ap (λ f. f q) (rows-faults job sound plan j low)) ∙ h)
-      (λ e. subst (λ m. m < nodes job) (sym (ap (λ (c : Copy). c .node) (row-primary job plan (tasks job) j low)) ∙ e) (reads .primary-node j low))
+      (λ e. subst (λ m. m < domains job) (sym (ap (λ (c : Copy). domain job (c .node)) (row-primary job plan (tasks job) j low)) ∙ e)
+      (domain-below job sound _ (reads .primary-node j low)))
       (λ k pk at weak hk. faults-low n (link job k .from) q (omega (arith, sound .rise k pk, at)) (omega arith) hk)
 
   -- the copies in the table
@@ -143,7 +145,6 @@ module _ (job : Job) (plan : Plan) (sound : Sound job) (reads : PlanSound job pl
       rows-are j p = same-row _ _ _ _ _ _ (copied .primary j p) (copied .backup j p) (fun-ext λ q. faults-at j q p)
 
       held : Held job (tasks job) final
-      unfolding domain
       held =
           record {
             node = λ k p. entry-able k p .on;
@@ -151,8 +152,8 @@ module _ (job : Job) (plan : Plan) (sound : Sound job) (reads : PlanSound job pl
             ends = λ k p. entry-able k p .ends;
             primary-set = filled .primary;
             own = λ i p.
-                faults-at i _ p ∙ ap (λ f. f (getD (cs .node) (2 * i) 0)) (rows-faults job sound plan i p)
-                ∙ faults-here job t i (t i .primary) _ (eq-eqb _ _ (sym (ap (λ (c : Copy). c .node) (copied .primary i p))));
+                faults-at i _ p ∙ ap (λ f. f (domain job (getD (cs .node) (2 * i) 0))) (rows-faults job sound plan i p)
+                ∙ faults-here job t i (t i .primary) _ (eq-eqb _ _ (sym (ap (λ (c : Copy). domain job (c .node)) (copied .primary i p))));
             within = λ i q p h. faults-low (tasks job) i q p (omega arith) (sym (faults-at i q p) ∙ h);
           }
 
@@ -183,11 +184,11 @@ module _ (job : Job) (plan : Plan) (sound : Sound job) (reads : PlanSound job pl
             sym backups-are-judged
             ∙ first-none (links job) _ (λ k p. none-unless _ _ (others k p (rw (empty, has-none (link job k .from)))))
 
-      breach-is : faultBreach final (tasks job) ≡ byFaults job (rowOf final)
+      breach-is : faultBreach final (job .nodes) (tasks job) ≡ byFaults job (rowOf final)
       unfolding faultBreach lossBreach byFaults firstTask ruleF rowOf domain
-      breach-is = ap (λ o. lossBreach (cs .node) sets (tasks job) or-else o) (pairs-are job final (sound .nodes-most) held)
+      breach-is = ap (λ o. lossBreach (job .nodes) (cs .node) sets (tasks job) or-else o) (pairs-are job final held)
 
-      faults-are-judged : faultBreach final (tasks job) ≡ byFaults job t
+      faults-are-judged : faultBreach final (job .nodes) (tasks job) ≡ byFaults job t
       faults-are-judged = breach-is ∙ faults-same job sound (rowOf final) t rows-are
 
 -- the answer of each part where the parts before it found nothing
@@ -207,9 +208,12 @@ module _ (job : Job) (plan : Plan) (sound : Sound job) (reads : PlanSound job pl
       let able = entry-able job plan sound reads cs (placed .tabled .copied) in
       record { few = sound .tasks-most; on = λ k p. omega (arith, able k p .on, sound .nodes-most) }
 
+  pub grouped : Grouped (job .nodes) (cs .node) (tasks job)
+  grouped k p = sound .group-most _ (entry-able job plan sound reads cs (placed .tabled .copied) k p .on)
+
   -- the sets before any task is gathered
   own-sets : SetsTo job plan 0 (cs .set)
-  unfolding ownNode domain
+  unfolding ownGroup
   own-sets =
       let it = placed .tabled in
       record {
@@ -279,7 +283,7 @@ module _ (job : Job) (plan : Plan) (sound : Sound job) (reads : PlanSound job pl
         pub backups-refused : (u : Answer) → Passed u → (r : Refusal) → u ≡ Refused r → u ≡ judge job plan
         backups-refused u e r is = parts u (before _ u (stop _ _ _ r (backups-answer u e) is))
 
-        pub faults-answered : Fed → (u : Answer) → u ≡ answered (faultBreach full (tasks job)) → u ≡ judge job plan
+        pub faults-answered : Fed → (u : Answer) → u ≡ answered (faultBreach full (job .nodes) (tasks job)) → u ≡ judge job plan
         faults-answered fed u e =
             parts u (before _ u (e
             ∙ ap answered

@@ -12,8 +12,8 @@ use Rattle.reader.specs.declared.plan.Plan.{Plan}
 use Rattle.reader.specs.declared.refusal.Refusal.the-variants.{SameNode, TooSoon, Early, Late}
 use Rattle.reader.specs.declared.refusal.Answer.{Answer}
 use Rattle.reader.specs.First.{_or-else_}
-use Rattle.reader.specs.Limits.{maxSend, maxTasks, maxTime, maxStart}
-use Rattle.reader.specs.Entries.{nodes, tasks, detect, ready, deadline, task, place}
+use Rattle.reader.specs.Limits.{maxSend, maxGroup, maxTasks, maxTime, maxStart}
+use Rattle.reader.specs.Entries.{nodes, tasks, detect, group, ready, deadline, task, place}
 use Rattle.reader.specs.Refusals.{answered}
 use Rattle.reader.specs.Sound.{Sound, PlanSound}
 use Rattle.reader.proofs.TestLaws.{below-suc}
@@ -23,7 +23,7 @@ use Rattle.rules.specs.Rules.{rows, ruleA, ruleReady, ruleB, ruleC}
 use Rattle.rules.specs.Judge.{firstTask}
 use Rattle.rules.proofs.FaultSetLaws.{row-primary, row-backup}
 use Rattle.copies.specs.declared.table.Copies.{Copies}
-use Rattle.copies.specs.Sets.{everyNode}
+use Rattle.copies.specs.Sets.{everyGroup}
 use Rattle.copies.specs.Arrival.{leaveOf, Leaving}
 use Rattle.copies.specs.Table.{copyCount, Whole, Stored}
 use Rattle.copies.proofs.ArrivalLaws.{leaving-start, leaving-more}
@@ -44,6 +44,7 @@ placeable job plan sound reads =
       primary = λ j p. copy-fits job sound j _ _ p (reads .primary-node j p) (reads .primary-start j p);
       backup = λ j p. copy-fits job sound j _ _ p (reads .backup-node j p) (reads .backup-start j p);
       detects = λ j p. sound .detect-most _ (reads .primary-node j p);
+      groups = λ j p. sound .group-most _ (reads .primary-node j p);
       primary-sends = λ j p. sound .send-most _ (reads .primary-node j p);
       backup-sends = λ j p. sound .send-most _ (reads .backup-node j p);
     }
@@ -52,6 +53,11 @@ pub detect-fits : (job : Job) (plan : Plan) → Placeable (job .tasks) (job .nod
     → (p : Copy) → p ≡ copyOn (task job j) (place plan j .«primary_node») (place plan j .«primary_start»)
     → p .finish + detect job (p .node) < 4_294_967_296
 detect-fits job plan h j low p is = rw is (omega (arith, h .primary j low .ends, h .detects j low))
+
+-- the group of the primary's node is one
+pub group-fits : (job : Job) (plan : Plan) → Placeable (job .tasks) (job .nodes) (tasks job) plan → (j : ℕ) → j < tasks job
+    → (p : Copy) → p ≡ copyOn (task job j) (place plan j .«primary_node») (place plan j .«primary_start») → group job (p .node) ≤ maxGroup
+group-fits job plan h j low p is = rw is (h .groups j low)
 
 -- a delay can be added to when the results of both copies leave
 pub leaves-soon : (job : Job) (plan : Plan) → Placeable (job .tasks) (job .nodes) (tasks job) plan → (j : ℕ) → j < tasks job
@@ -92,8 +98,9 @@ module _ (job : Job) (plan : Plan) where
       }
 
   -- p and b as entries of task j
-  tabled-more : (j own : ℕ) (cs ds es : Copies) (p b : Copy) → Stored cs (2 * j) p everyNode ds → Stored ds (2 * j + 1) b own es → Whole es
-      → p ≡ rows job plan j .primary → b ≡ rows job plan j .backup → own ≡ 2 ^ p .node → Tabled job plan j cs → Tabled job plan (j + 1) es
+  tabled-more : (j own : ℕ) (cs ds es : Copies) (p b : Copy) → Stored cs (2 * j) p everyGroup ds → Stored ds (2 * j + 1) b own es → Whole es
+      → p ≡ rows job plan j .primary → b ≡ rows job plan j .backup → own ≡ 2 ^ domain job (p .node)
+      → Tabled job plan j cs → Tabled job plan (j + 1) es
   tabled-more j own cs ds es p b first second whole ep eb eo h =
       record {
         whole = whole;
@@ -111,7 +118,7 @@ module _ (job : Job) (plan : Plan) where
             (λ r. rw r (second .other-set (2 * j) (λ e. omega arith) ∙ first .here-set));
         own-set = λ i q. below-suc i j (omega arith)
             (λ r. second .other-set (2 * i + 1) (λ e. omega arith) ∙ first .other-set (2 * i + 1) (λ e. omega arith) ∙ h .own-set i r)
-            (λ r. rw r (second .here-set ∙ eo ∙ ap (λ (c : Copy). 2 ^ c .node) ep));
+            (λ r. rw r (second .here-set ∙ eo ∙ ap (λ (c : Copy). 2 ^ domain job (c .node)) ep));
       }
 
   -- one task more, with its copies p and b
@@ -121,12 +128,12 @@ module _ (job : Job) (plan : Plan) where
       → p ≡ copyOn (task job j) (place plan j .«primary_node») (place plan j .«primary_start»)
       → b ≡ copyOn (task job j) (place plan j .«backup_node») (place plan j .«backup_start»)
       → (x w y z : ℕ)
-      → x ≡ notedOf same j (not (eqb (p .node) (b .node)))
+      → x ≡ notedOf same j (not (eqb (group job (p .node)) (group job (b .node))))
       → w ≡ notedOf soon j (leb (ready job j) (p .start))
       → y ≡ notedOf early j (leb (p .finish + detect job (p .node)) (b .start))
       → z ≡ notedOf late j (leb (b .finish) (deadline job j))
-      → (own : ℕ) → own ≡ 2 ^ p .node
-      → (ds es : Copies) → Stored cs (2 * j) p everyNode ds → Stored ds (2 * j + 1) b own es → Whole es
+      → (own : ℕ) → own ≡ 2 ^ group job (p .node)
+      → (ds es : Copies) → Stored cs (2 * j) p everyGroup ds → Stored ds (2 * j + 1) b own es → Whole es
       → Placing job plan (j + 1) es (set (set leave (2 * j) (leaveOf job p)) (2 * j + 1) (leaveOf job b)) x w y z
   unfolding copy domain ruleA ruleReady ruleB ruleC
   placing-more fits j cs leave same soon early late h low p b ip ib x w y z ex ew ey ez own eo ds es first second whole =
@@ -144,7 +151,7 @@ module _ (job : Job) (plan : Plan) where
             (leaving-more job (2 * j) cs leave (h .leaving) ds (λ k q. first .other k (λ e. omega arith)) (omega arith) _
             (ap (leaveOf job) (sym (first .here))) (leaves .0))
             es (λ k q. second .other k (λ e. omega arith)) (omega arith) _ (ap (leaveOf job) (sym (second .here))) (leaves .1));
-        a = note-more _ j same x _ small (h .a) (ap₂ (λ (c d : Copy). not (eqb (c .node) (d .node))) ep eb) ex;
+        a = note-more _ j same x _ small (h .a) (ap₂ (λ (c d : Copy). not (eqb (group job (c .node)) (group job (d .node)))) ep eb) ex;
         ready = note-more _ j soon w _ small (h .ready) (ap (λ (c : Copy). leb (ready job j) (c .start)) ep) ew;
         b = note-more _ j early y _ small (h .b) (ap₂ (λ (c d : Copy). leb (c .finish + detect job (c .node)) (d .start)) ep eb) ey;
         c = note-more _ j late z _ small (h .c) (ap (λ (d : Copy). leb (d .finish) (deadline job j)) eb) ez;

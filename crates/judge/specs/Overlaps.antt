@@ -1,8 +1,10 @@
 -- G over the entries of the table.
 use Prim.Native.Nat.{ℕ, _+_, _*_}
 use mathlib.Core.Bool.{Bool, not}
+use mathlib.Core.List.{List}
 use mathlib.Core.Option.{Option}
 use lib.Dec.{ltb}
+use Rattle.reader.specs.declared.job.Node.{Node}
 use Rattle.reader.specs.declared.refusal.Refusal.{Refusal}
 use Rattle.reader.specs.declared.refusal.Refusal.the-variants.{Overlap}
 use Rattle.reader.specs.Tests.{_and_, _implies_}
@@ -34,5 +36,5 @@ module _ (cs : Copies) where
       clearOf (2 * j) and clearOf (2 * j + 1)
 
   -- F, then G, over the first n tasks
-  unfoldable pub faultBreach : ℕ → Option Refusal
-  faultBreach n = lossBreach (cs .node) (cs .set) n or-else first n (pairBreach n)
+  unfoldable pub faultBreach : List Node → ℕ → Option Refusal
+  faultBreach nodes n = lossBreach nodes (cs .node) (cs .set) n or-else first n (pairBreach n)

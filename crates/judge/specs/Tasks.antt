@@ -8,13 +8,14 @@ use Rattle.reader.specs.declared.job.Node.{Node}
 use Rattle.reader.specs.declared.job.Task.{Task}
 use Rattle.reader.specs.declared.plan.Plan.{Plan}
 use Rattle.reader.specs.declared.refusal.Answer.{Answer}
-use Rattle.reader.specs.Limits.{maxNodes, maxDetect, maxSend, maxTasks, maxStart, maxTime}
+use Rattle.reader.specs.Limits.{maxNodes, maxDetect, maxSend, maxGroup, maxTasks, maxStart, maxTime}
 use Rattle.reader.specs.Entries.{nodes, tasks, links, noNode, noTask, place}
 use Rattle.reader.specs.Refusals.{answered}
 use Rattle.rules.specs.declared.Copy.{Copy}
+use Rattle.rules.specs.Copies.{domain}
 use Rattle.rules.specs.Rules.{rows}
 use Rattle.copies.specs.declared.table.Copies.{Copies}
-use Rattle.copies.specs.Sets.{everyNode}
+use Rattle.copies.specs.Sets.{everyGroup}
 use Rattle.copies.specs.Arrival.{Leaving}
 use Rattle.copies.specs.Table.{entry, setAt, Whole}
 use Rattle.judge.specs.Parts.{byTasks}
@@ -40,12 +41,14 @@ tasked job list rack n =
       links = job .links;
     }
 
--- what the pass over the first n tasks rests on: their copies fit, and the detect time of each primary's node and the send times of both nodes do
+-- what the pass over the first n tasks rests on: their copies fit, and the detect time and the group of each primary's node and the send times of
+-- both nodes do
 pub record Placeable (list : List Task) (rack : List Node) (n : ℕ) (plan : Plan) : Type 0 where
   pub few : n ≤ maxTasks
   pub primary : (j : ℕ) → j < n → CopyFits (getD list j noTask) (place plan j .«primary_node») (place plan j .«primary_start»)
   pub backup : (j : ℕ) → j < n → CopyFits (getD list j noTask) (place plan j .«backup_node») (place plan j .«backup_start»)
   pub detects : (j : ℕ) → j < n → getD rack (place plan j .«primary_node») noNode .detect ≤ maxDetect
+  pub groups : (j : ℕ) → j < n → getD rack (place plan j .«primary_node») noNode .group ≤ maxGroup
   pub primary-sends : (j : ℕ) → j < n → getD rack (place plan j .«primary_node») noNode .send ≤ maxSend
   pub backup-sends : (j : ℕ) → j < n → getD rack (place plan j .«backup_node») noNode .send ≤ maxSend
 
@@ -54,12 +57,12 @@ pub record Copied (job : Job) (plan : Plan) (n : ℕ) (at : ℕ → Copy) : Type
   pub primary : (j : ℕ) → j < n → at (2 * j) ≡ rows job plan j .primary
   pub backup : (j : ℕ) → j < n → at (2 * j + 1) ≡ rows job plan j .backup
 
--- the table has the copies of the first n tasks, every node as the set of each primary, and as each fault set its own primary's node so far
+-- the table has the copies of the first n tasks, every group as the set of each primary, and as each fault set its own primary's group so far
 pub record Tabled (job : Job) (plan : Plan) (n : ℕ) (cs : Copies) : Type 0 where
   pub whole : Whole cs
   pub copied : Copied job plan n (entry cs)
-  pub primary-set : (j : ℕ) → j < n → setAt cs (2 * j) ≡ everyNode
-  pub own-set : (j : ℕ) → j < n → setAt cs (2 * j + 1) ≡ 2 ^ rows job plan j .primary .node
+  pub primary-set : (j : ℕ) → j < n → setAt cs (2 * j) ≡ everyGroup
+  pub own-set : (j : ℕ) → j < n → setAt cs (2 * j + 1) ≡ 2 ^ domain job (rows job plan j .primary .node)
 
 -- the table of all tasks, when the result of each copy leaves, and the answer of A, the ready time, B and C
 pub record TasksJudged (job : Job) (plan : Plan) (cs : Copies) (leave : List ℕ) (r : Answer) : Type 0 where

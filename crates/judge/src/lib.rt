@@ -15,6 +15,7 @@ use crate::overlaps::overlapping;
 use crate::tasks::place_copies;
 use copies::table::Copies;
 use reader::job::Job;
+use reader::job::Node;
 use reader::plan::Plan;
 use reader::refusal::Answer;
 ghost use mathlib.Core.Path.{_≡_};
@@ -23,20 +24,22 @@ ghost use Rattle.reader.specs.Sound.{Sound, PlanSound};
 ghost use Rattle.rules.specs.Judge.{judge};
 ghost use Rattle.copies.specs.Table.{table};
 ghost use Rattle.judge.specs.Overlaps.{faultBreach};
-ghost use Rattle.judge.specs.Faults.{Low};
+ghost use Rattle.judge.specs.Faults.{Low, Grouped};
 
 // F and G, over the table of the first n tasks.
 fn judge_faults<'c>(
+    nodes: [Node; Job::MAX_NODES],
     node: &'c [u32; Copies::COUNT],
     start: &'c [u32; Copies::COUNT],
     finish: &'c [u32; Copies::COUNT],
     sets: &'c [u32; Copies::COUNT],
     n: usize,
 ) -> Answer
-    requires { ⌜ Low (now node) n ⌝ }
-    ensures { λ r. ⌜ r ≡ answered (faultBreach (table (now (node .entry)) (now (start .entry)) (now (finish .entry)) (now (sets .entry))) n) ⌝ }
+    requires { ⌜ Low (now node) n × Grouped nodes (now node) n ⌝ }
+    ensures { λ r. ⌜ r ≡ answered (faultBreach (table (now (node .entry)) (now (start .entry)) (now (finish .entry)) (now (sets .entry)))
+        nodes n) ⌝ }
 {
-    let f = common_loss(node, sets, n);
+    let f = common_loss(nodes, node, sets, n);
     let Answer::Done = f else {
         return f;
     };
@@ -86,5 +89,5 @@ pub fn judge_plan(job: Job, plan: Plan) -> Answer
             return by_backups;
         };
     }
-    judge_faults(&node, &start, &finish, &sets, n)
+    judge_faults(nodes, &node, &start, &finish, &sets, n)
 }

@@ -2,7 +2,7 @@
 use crate::note::NONE;
 use crate::note::noted;
 use copies::sets::ALL;
-use copies::sets::bit_of_node;
+use copies::sets::bit_of;
 use copies::table::Copies;
 use copies::table::put;
 use reader::job::Job;
@@ -55,7 +55,7 @@ fn task_answer(same: usize, soon: usize, early: usize, late: usize) -> Answer
     Answer::Done
 }
 
-// The caller's arrays are filled where they lie: as a result they would be copied. A fault set is its own primary's node before its task is gathered.
+// The caller's arrays are filled where they lie: as a result they would be copied. A fault set is its own primary's group before its task is gathered.
 pub fn place_copies(
     tasks: [Task; Job::MAX_TASKS],
     nodes: [Node; Job::MAX_NODES],
@@ -85,7 +85,7 @@ pub fn place_copies(
         let own = nodes[q];
         let r = b.node as usize;
         let other = nodes[r];
-        same = noted(same, j, p.node != b.node);
+        same = noted(same, j, own.group != other.group);
         soon = noted(soon, j, task.ready <= p.start);
         early = noted(early, j, p.finish + own.detect <= b.start);
         late = noted(late, j, b.finish <= task.deadline);
@@ -93,7 +93,7 @@ pub fn place_copies(
         leave[k] = p.finish + own.send;
         leave[k + 1] = b.finish + other.send;
         put(node, start, finish, sets, k, p, ALL);
-        put(node, start, finish, sets, k + 1, b, bit_of_node(p.node));
+        put(node, start, finish, sets, k + 1, b, bit_of(own.group));
         j += 1;
     }
     task_answer(same, soon, early, late)

@@ -5,14 +5,14 @@ use mathlib.Core.Path.{_≡_, _∙_}
 use native.Mathlib.Omega.{arith}
 use Rattle.reader.specs.Limits.{maxNodes}
 use Rattle.copies.specs.declared.table.Copies.{Copies}
-use Rattle.copies.specs.Sets.{everyNode}
+use Rattle.copies.specs.Sets.{everyGroup}
 use Rattle.copies.specs.Table.{copyCount, Whole, Stored}
 use Rattle.copies.specs.Chain.{Chained, Joins}
 use Rattle.copies.proofs.ChainLaws.{chained-pair}
 use Rattle.planner.specs.declared.task.Pair.{Pair}
 use Rattle.planner.specs.Tasks.{Booked}
 
-pub stored-booked : (cs : Copies) (j : ℕ) (x : Pair) (half r : Copies) → Stored cs (2 * j) (x .primary) everyNode half
+pub stored-booked : (cs : Copies) (j : ℕ) (x : Pair) (half r : Copies) → Stored cs (2 * j) (x .primary) everyGroup half
     → Stored half (2 * j + 1) (x .backup) (x .set) r → Whole r → Booked j x cs r
 stored-booked cs j x half r one then whole =
     record {

@@ -67,12 +67,13 @@ module _ (next from delay : List ℕ) (rs : Results) (last : ℕ) (p : Copy) whe
 
   -- what is gathered by them
   pub faulting-done : (left weak : ℕ) → left ≡ 0 → Faulting left weak
-      → (own set : ℕ) → own ≡ 2 ^ p .node → ((q : ℕ) → has set q ≡ joined own weak (rs .set) q) → Faulted next from delay rs last p set
+      → (group own set : ℕ) → own ≡ 2 ^ group → ((q : ℕ) → has set q ≡ joined own weak (rs .set) q)
+      → Faulted next from delay rs last p group set
   unfolding joined
-  faulting-done left weak e h own set is-own is-set key j c q =
+  faulting-done left weak e h group own set is-own is-set key j c q =
       let members : (i : ℕ) → has weak i ≡ over key j last i =
       λ i. sym (ap (λ y. has weak i or y) (ap (λ n. over key j n i) e ∙ any-start _) ∙ or-none _) ∙ h .is key j c i in
       is-set q
-      ∙ ap₂ _or_ (ap (λ x. has x q) is-own ∙ has-one (p .node) q)
+      ∙ ap₂ _or_ (ap (λ x. has x q) is-own ∙ has-one group q)
       (through-members last weak (λ m. getD from m 0) (λ m. eqb (key m) j) (λ m. not (comes (senderAt next from delay rs m .backup) p)) members
       (λ m b. h .walk .sending m b .few) (λ i. has (getD (rs .set) (2 * i + 1) 0) q))

@@ -14,7 +14,7 @@ use Rattle.reader.specs.declared.job.Task.{Task}
 use Rattle.reader.specs.declared.refusal.Refusal.the-variants.{NoPrimary, NoBackup}
 use Rattle.reader.specs.Tests.{_and_, _implies_}
 use Rattle.reader.specs.First.{every, when}
-use Rattle.reader.specs.Limits.{maxNodes, maxTime, maxStart}
+use Rattle.reader.specs.Limits.{maxNodes, maxGroup, maxTime, maxStart}
 use Rattle.reader.specs.Entries.{nodes, tasks, links, link, task, deadline, detect, run, noNode}
 use Rattle.reader.specs.Sound.{Sound}
 use Rattle.reader.proofs.TestLaws.{split, clash, not-i, not-e, not-true, and-yes, and-no, and-join}
@@ -25,12 +25,14 @@ use Rattle.rules.specs.Rules.{Row, row, faultSet, ruleA, ruleReady, ruleB, rule
 use Rattle.rules.specs.Attempts.{_>>=_, _or-refuse_}
 use Rattle.rules.specs.Planner.{earliest, primaryKeeps, primaryMay, backupKeeps, placeTask}
 use Rattle.rules.specs.Choice.{Best, backupKeepsBeside}
+use Rattle.rules.proofs.DomainLaws.{domain-below}
 use Rattle.rules.proofs.EarliestLaws.{earliest-some}
 use Rattle.rules.proofs.FaultSetLaws.{faults-here}
 use Rattle.copies.specs.declared.table.Copies.{Copies}
-use Rattle.copies.specs.Sets.{has, meets, everyNode}
+use Rattle.copies.specs.Sets.{has, meets, everyGroup}
 use Rattle.copies.specs.Table.{setAt, rowOf}
 use Rattle.copies.specs.Clash.{free}
+use Rattle.copies.specs.Gathered.{joined}
 use Rattle.copies.proofs.SetLaws.{has-none, has-both, empty-set}
 use Rattle.copies.proofs.ArrivalLaws.{comes-is, leb-max, backup-fed}
 use Rattle.copies.proofs.ChainLaws.{chain-of, chain-within}
@@ -46,6 +48,7 @@ use Rattle.planner.specs.Search.{slotCopy, tryAt, bestOf, freeFrom, node
 use Rattle.planner.specs.Inputs.{readyOn, fedBy, Given}
 use Rattle.planner.specs.Faults.{Faulted}
 use Rattle.planner.specs.Tasks.{primaryFrom, Wanted, attempted}
+use Rattle.planner.proofs.PeerLaws.{peers-joined}
 use Rattle.planner.proofs.SentLaws.{outOf, into-every, into-sending, sends, sends-is, into-faults}
 
 -- searches that agree on every place that may count
@@ -87,10 +90,9 @@ best-found job j keeps c sound p best =
       ends = omega (arith, best .place .able .in-time, sound .deadline-most j p);
     }
 
--- a fault set has the primary's node
-pub faults-own : (job : Job) (t : ℕ → Row) (j : ℕ) (p : Copy) (set : ℕ) → has set ≡ faultSet job t j p → has set (p .node) ≡ true
-unfolding domain
-faults-own job t j p set e = ap (λ f. f (p .node)) e ∙ faults-here job t j p (p .node) (eq-eqb (p .node) (p .node) refl)
+-- a fault set has the primary's group
+pub faults-own : (job : Job) (t : ℕ → Row) (j : ℕ) (p : Copy) (set : ℕ) → has set ≡ faultSet job t j p → has set (domain job (p .node)) ≡ true
+faults-own job t j p set e = let q = domain job (p .node) in ap (λ f. f q) e ∙ faults-here job t j p q (eq-eqb q q refl)
 
 -- nothing meets the empty set
 meets-none : (z : ℕ) → meets z 0 ≡ false
@@ -119,7 +121,8 @@ shuffle true true false false rg x h e = refl
 shuffle true false re false rg x h e = refl
 shuffle false rb re false rg x h e = refl
 
-module _ (next from delay : List ℕ) (cs : Copies) (leave before last : List ℕ) (want : Want) (w : Wanted next from delay cs leave before last want) where
+module _ (next from delay : List ℕ) (cs : Copies) (leave before last peers : List ℕ) (want : Want)
+    (w : Wanted next from delay cs leave before last peers want) where
   abbrev job : Job
   job = w .job
 
@@ -131,6 +134,10 @@ module _ (next from delay : List ℕ) (cs : Copies) (leave before last : List �
 
   pub want-sending : Sending next from delay (outOf cs leave) (want .into)
   want-sending = into-sending job next from delay j (want .into) (w .into) (w .sound) (w .rows) cs leave before last (w .beside)
+
+  -- the group of a node of the job
+  want-group : (i : ℕ) → i < nodes job → getD (want .nodes) i noNode .group ≤ maxGroup
+  want-group i p = subst (λ x. getD x i noNode .group ≤ maxGroup) (sym (w .nodes-are)) (w .sound .group-most i p)
 
   -- no clash on the chain of the copy's node, and none at all
   free-all : (m : ℕ) (c : Copy) → c .node < nodes job → free cs m c (getD last (c .node) 0) ≡ free cs m c (2 * w .rows)
@@ -199,7 +206,7 @@ module _ (next from delay : List ℕ) (cs : Copies) (leave before last : List �
   -- the primary's search
   module _ (fed : Ready) (given : Fed 0 fed) (s : Search) (is-s : s ≡ primarySearch (want .task) (want .count) fed (want .least) (want .shut)) where
     pub primary-ready : Searched cs before last s
-    primary-ready = subst (Searched cs before last) (sym is-s) (searched fed soonest everyNode (want .shut) soonest-most (given .most))
+    primary-ready = subst (Searched cs before last) (sym is-s) (searched fed soonest everyGroup (want .shut) soonest-most (given .most))
 
     abbrev may : Copy → Bool
     may = primaryMay job (primaryFrom (want .least) (want .shut)) (w .rows) (rowOf cs) j
@@ -214,7 +221,7 @@ module _ (next from delay : List ℕ) (cs : Copies) (leave before last : List �
     unfolding fits nodeOk freeFrom primaryKeeps primaryFrom
     primary-fits c p q =
         ap (λ g. not (has (want .shut) (c .node)) and leb (max (readyOn fed (c .node)) soonest) (c .start) and g)
-        (free-all everyNode c p ∙ free-primary job cs (w .rows) (w .sound .nodes-most) (w .beside .held) c q)
+        (free-all everyGroup c p ∙ free-primary job cs (w .rows) (w .beside .held) c q)
         ∙ five _ _ (ruleReady job j c) _ _ _ (leb-max _ soonest (c .start) ∙ ap₂ (λ d u. d and u) (d-is c) (soonest-is c))
 
     module _ (a : Slot) (is-a : Gave s a) where
@@ -243,10 +250,20 @@ module _ (next from delay : List ℕ) (cs : Copies) (leave before last : List �
             subst (λ x. p .finish + getD x (p .node) noNode .detect ≤ latestInput) (sym (w .nodes-are))
             (omega (arith, p-found .ends, w .sound .detect-most (p .node) (p-found .node)))
 
+        -- the group of its node
+        abbrev group : ℕ
+        group = getD (want .nodes) (p .node) noNode .group
+
+        pub group-fits : group ≤ maxGroup
+        group-fits = want-group (p .node) (p-found .node)
+
         -- with this fault set
-        module _ (set : ℕ) (is-set : Faulted next from delay (outOf cs leave) (want .into) p set) where
+        module _ (set : ℕ) (is-set : Faulted next from delay (outOf cs leave) (want .into) p group set) where
           faults : has set ≡ faultSet job (rowOf cs) j p
-          faults = into-faults job next from delay j (want .into) (w .into) (w .rows) cs leave (w .beside .leaving) (w .fed) p set is-set
+          unfolding domain
+          faults =
+              into-faults job next from delay j (want .into) (w .into) (w .rows) cs leave (w .beside .leaving) (w .fed) p group set
+              (ap (λ x. getD x (p .node) noNode .group) (w .nodes-are)) is-set
 
           abbrev the-row : Copy → Row
           the-row b = row job (rowOf cs) j p b
@@ -262,22 +279,27 @@ module _ (next from delay : List ℕ) (cs : Copies) (leave before last : List �
           unfolding ruleB row
           b-is b = ap (λ x. leb (p .finish + getD x (p .node) noNode .detect) (b .start)) (w .nodes-are)
 
-          f-is : (b : Copy) → not (has set (b .node)) ≡ ruleF job (the-row b)
-          unfolding ruleF row domain
-          f-is b = ap (λ f. not (f (b .node))) faults
-
           g-is : (b : Copy) → b .node < nodes job → b .start < b .finish
               → free cs set b (getD last (b .node) 0) ≡ every (w .rows) (λ i. ruleGBackup job (rowOf cs i) (the-row b))
           unfolding row
           g-is b on q =
               free-all set b on
-              ∙ free-backup job cs (w .rows) (w .sound .nodes-most) (w .beside .held) b q set (p .node) (the-row b) refl faults (p-found .node)
+              ∙ free-backup job cs (w .rows) (w .beside .held) b q set _ (the-row b) refl faults (domain-below job (w .sound) _ (p-found .node))
               (faults-own job (rowOf cs) j p set faults)
 
-          -- and the backup's search
-          module _ (late : Ready) (more : Fed set late) (t : Search) (is-t : t ≡ backupSearch (want .task) (want .count) late least set) where
+          -- and the backup's search, which the nodes in `barred` are kept from
+          module _ (late : Ready) (more : Fed set late) (barred : ℕ) (bars : (i : ℕ) → has barred i ≡ joined 0 set peers i)
+              (t : Search) (is-t : t ≡ backupSearch (want .task) (want .count) late least set barred) where
             pub backup-ready : Searched cs before last t
-            backup-ready = subst (Searched cs before last) (sym is-t) (searched late least set set least-fits (more .most))
+            backup-ready = subst (Searched cs before last) (sym is-t) (searched late least set barred least-fits (more .most))
+
+            f-is : (b : Copy) → b .node < nodes job → not (has barred (b .node)) ≡ ruleF job (the-row b)
+            unfolding ruleF row domain
+            f-is b on =
+                ap not (bars (b .node)
+                ∙ peers-joined _ _ peers (w .peers-are) set (b .node) (omega (arith, w .count-is)) (want-group (b .node) on)
+                ∙ ap (λ x. has set (getD x (b .node) noNode .group)) (w .nodes-are))
+                ∙ ap (λ f. not (f (domain job (b .node)))) faults
 
             e-is : (b : Copy) → leb (readyOn late (b .node)) (b .start)
                 ≡ every (links job) (λ k. eqb (key k) j implies ruleE job (link job k) (rowOf cs (link job k .from)) (the-row b))
@@ -285,10 +307,10 @@ module _ (next from delay : List ℕ) (cs : Copies) (leave before last : List �
             e-is b = fed-is set late more b _ (λ m q e. backup-fed job cs (w .rows) (w .beside .held) set (the-row b) faults (link job m) _ (w .fed m q e))
 
             backup-fits : (b : Copy) → b .node < nodes job → b .start < b .finish
-                → fits cs last (backupSearch (want .task) (want .count) late least set) b ≡ backupKeepsBeside job (w .rows) (rowOf cs) j p b
+                → fits cs last (backupSearch (want .task) (want .count) late least set barred) b ≡ backupKeepsBeside job (w .rows) (rowOf cs) j p b
             unfolding fits nodeOk freeFrom backupKeeps
             backup-fits b on q =
-                ap₂ (λ x y. x and leb (max (readyOn late (b .node)) least) (b .start) and y) (f-is b) (g-is b on q)
+                ap₂ (λ x y. x and leb (max (readyOn late (b .node)) least) (b .start) and y) (f-is b on) (g-is b on q)
                 ∙ shuffle (ruleA job (the-row b)) (ruleB job (the-row b)) _ (ruleF job (the-row b)) _ _ (a-from-f b)
                 (leb-max _ _ (b .start) ∙ ap₂ (λ x y. x and y) (e-is b) (b-is b))
 

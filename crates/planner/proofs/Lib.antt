@@ -1,6 +1,7 @@
 pub mod SenderLaws
 pub mod InputLaws
 pub mod FaultLaws
+pub mod PeerLaws
 pub mod ListLaws
 pub mod LeapLaws
 pub mod BestLaws

@@ -102,11 +102,12 @@ module _ (job : Job) (next from delay : List ℕ) (j into : ℕ) (i : Into job n
         (result-is job _ cs leave leaving (link job m) _ (omega arith)) (result-is job _ cs leave leaving (link job m) _ (omega arith)))
 
     -- the fault set by the chain is that of the rules
-    pub into-faults : (p : Copy) (set : ℕ) → Faulted next from delay (outOf cs leave) into p set → has set ≡ faultSet job (rowOf cs) j p
-    unfolding faultSet carries strong rowOf domain _and_
-    into-faults p set is-set =
+    pub into-faults : (p : Copy) (group set : ℕ) → group ≡ domain job (p .node) → Faulted next from delay (outOf cs leave) into p group set
+        → has set ≡ faultSet job (rowOf cs) j p
+    unfolding faultSet carries strong rowOf _and_
+    into-faults p group set its is-set =
         let key : ℕ → ℕ = λ m. link job m .to in
-        fun-ext λ q. is-set key j (i .chain) q ∙ ap (λ b. eqb (p .node) q or b)
+        fun-ext λ q. is-set key j (i .chain) q ∙ ap₂ (λ g b. eqb g q or b) its
         (into-any _ (λ m h. and-unless _ _ (ne-eqb (key m) j h))
         ∙ any-same (links job) _ _ (λ m b. split (eqb (key m) j)
         (λ e. rw e (ap (carriesFrom p q) (sends-is m b (eqb-true (key m) j e))

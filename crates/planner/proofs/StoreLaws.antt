@@ -16,13 +16,14 @@ use Rattle.reader.specs.Sound.{Sound}
 use Rattle.reader.proofs.TestLaws.{split, below-suc}
 use Rattle.rules.specs.declared.Copy.{Copy}
 use Rattle.rules.specs.Tables.{put}
-use Rattle.rules.specs.Copies.{domain}
+use Rattle.rules.specs.Copies.{domain, domains}
 use Rattle.rules.specs.Rules.{faultSet}
+use Rattle.rules.proofs.DomainLaws.{domain-below}
 use Rattle.rules.proofs.TableLaws.{put-same, put-other}
 use Rattle.rules.proofs.FaultSetLaws.{faults-e}
 use Rattle.copies.specs.declared.table.Copies.{Copies}
 use Rattle.copies.specs.Arrival.{leaveOf, Leaving}
-use Rattle.copies.specs.Sets.{has, everyNode}
+use Rattle.copies.specs.Sets.{has, everyGroup}
 use Rattle.copies.specs.Table.{copyCount, entry, setAt, rowOf, emptyCopies, Held}
 use Rattle.copies.proofs.ListMore.{replicated}
 use Rattle.copies.proofs.ArrivalLaws.{leaving-start, leaving-more}
@@ -112,10 +113,11 @@ module _ (job : Job) (j : ℕ) (cs : Copies) (leave before last : List ℕ) (sou
         }
 
     module _ (faults-are : faultSet job (rowOf cs) j (x .primary) ≡ has (x .set)) where
-      faults-within : (n : ℕ) → has (x .set) n ≡ true → n < nodes job
-      unfolding rowOf domain
+      faults-within : (n : ℕ) → has (x .set) n ≡ true → n < domains job
+      unfolding rowOf
       faults-within n t =
-          faults-e job (rowOf cs) j (x .primary) n (ap (λ f. f n) faults-are ∙ t) (λ e. omega (arith, p-found .node))
+          faults-e job (rowOf cs) j (x .primary) n (ap (λ f. f n) faults-are ∙ t)
+          (λ e. subst (λ i. i < domains job) e (domain-below job sound _ (p-found .node)))
           (λ k b e w h. beside .held .within (link job k .from) n (omega (arith, sound .rise k b)) h)
 
       module _ (r : Copies) (b : Booked j x cs r) where
@@ -128,12 +130,13 @@ module _ (job : Job) (j : ℕ) (cs : Copies) (leave before last : List ℕ) (sou
               ends = all-entries j x cs r b (λ c. c .finish ≤ maxStart + maxTime) (old .ends) (p-found .ends) (q-found .ends);
               primary-set = λ i w. below-suc i j (omega arith)
                   (λ y. b .other-set (2 * i) (omega arith) (omega arith) ∙ old .primary-set i y)
-                  (λ y. subst (λ t. setAt r (2 * t) ≡ everyNode) (sym y) (b .primary-set));
+                  (λ y. subst (λ t. setAt r (2 * t) ≡ everyGroup) (sym y) (b .primary-set));
               own = λ i w. below-suc i j (omega arith)
-                  (λ y. ap₂ (λ z c. has z (c .node)) (b .other-set (2 * i + 1) (omega arith) (omega arith)) (b .other (2 * i) (omega arith) (omega arith))
+                  (λ y. ap₂ (λ z c. has z (domain job (c .node)))
+                  (b .other-set (2 * i + 1) (omega arith) (omega arith)) (b .other (2 * i) (omega arith) (omega arith))
                   ∙ old .own i y)
-                  (λ y. subst (λ t. has (setAt r (2 * t + 1)) (entry r (2 * t) .node) ≡ true) (sym y)
-                  (ap₂ (λ z c. has z (c .node)) (b .backup-set) (b .primary)
+                  (λ y. subst (λ t. has (setAt r (2 * t + 1)) (domain job (entry r (2 * t) .node)) ≡ true) (sym y)
+                  (ap₂ (λ z c. has z (domain job (c .node))) (b .backup-set) (b .primary)
                   ∙ faults-own job (rowOf cs) j (x .primary) (x .set) (sym faults-are)));
               within = λ i n w. below-suc i j (omega arith)
                   (λ y h. old .within i n y (sym (ap (λ z. has z n) (b .other-set (2 * i + 1) (omega arith) (omega arith))) ∙ h))

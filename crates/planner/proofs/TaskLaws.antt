@@ -28,6 +28,7 @@ use Rattle.planner.specs.declared.task.Pair.{Pair}
 use Rattle.planner.specs.declared.task.Placing.{Placing}
 use Rattle.planner.specs.declared.task.Placing.the-variants.{At, Nowhere}
 use Rattle.planner.specs.Senders.{Net, Sent}
+use Rattle.planner.specs.Faults.{Peers}
 use Rattle.planner.specs.Tasks.{wantOf, pairRow, attempted, Bookable, Booked, Departing, departed, ChainedUp}
 use Rattle.planner.specs.Tasks.{Planning, placesTo, listed, planned}
 use Rattle.planner.proofs.KeepsLaws.{Found, best-found}
@@ -43,10 +44,11 @@ stays job m x h (suc n) p =
 
 -- task j, of which `place_task` told a
 module _ (job : Job) (net : Net) (j : ℕ) (cs : Copies) (leave before last : List ℕ) (so-far : Planning job net j cs leave before last)
-    (task-of : j < tasks job) (want : Want) (is-want : want ≡ wantOf j (task job j) (job .nodes) (nodes job) (getD (net .last) j 0))
-    (a : Placing) (is-a : Told (net .next) (net .from) (net .delay) cs leave before last want a) where
+    (task-of : j < tasks job) (peers : List ℕ) (by-group : Peers (job .nodes) (nodes job) peers) (want : Want)
+    (is-want : want ≡ wantOf j (task job j) (job .nodes) (nodes job) (getD (net .last) j 0))
+    (a : Placing) (is-a : Told (net .next) (net .from) (net .delay) cs leave before last peers want a) where
   answer : attempted a ≡ placeTask job (anywhere j) j (rowOf cs) j
-  answer = told job _ _ _ _ j cs leave before last (so-far .sound) (so-far .sent) (so-far .beside) task-of want is-want a is-a
+  answer = told job _ _ _ _ j cs leave before last (so-far .sound) (so-far .sent) (so-far .beside) task-of peers by-group want is-want a is-a
 
   -- it is placed as x
   module _ (x : Pair) (at-x : a ≡ At x) where

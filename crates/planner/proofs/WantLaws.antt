@@ -16,6 +16,7 @@ use Rattle.copies.proofs.SetLaws.{has-none}
 use Rattle.planner.specs.declared.task.Want.{Want}
 use Rattle.planner.specs.declared.task.Placing.{Placing}
 use Rattle.planner.specs.Senders.{Sent}
+use Rattle.planner.specs.Faults.{Peers}
 use Rattle.planner.specs.Tasks.{primaryFrom, Beside, wantOf, Wanted, attempted}
 use Rattle.planner.proofs.SentLaws.{sent-into}
 
@@ -25,16 +26,17 @@ unfolding primaryFrom _and_
 from-anywhere j = fun-ext λ p. rw (has-none (p .node)) (le-leb 0 (p .start) (omega arith))
 
 -- what `place_task` says of its answer
-abbrev pub Told : List ℕ → List ℕ → List ℕ → Copies → List ℕ → List ℕ → List ℕ → Want → Placing → Type 0
-Told next from delay cs leave before last want a =
-    (w : Wanted next from delay cs leave before last want)
+abbrev pub Told : List ℕ → List ℕ → List ℕ → Copies → List ℕ → List ℕ → List ℕ → List ℕ → Want → Placing → Type 0
+Told next from delay cs leave before last peers want a =
+    (w : Wanted next from delay cs leave before last peers want)
     → attempted a ≡ placeTask (w .job) (primaryFrom (want .least) (want .shut)) (w .rows) (rowOf cs) (want .number)
 
 -- task j is wanted, beside those before it
 module _ (job : Job) (into next from delay : List ℕ) (j : ℕ) (cs : Copies) (leave before last : List ℕ) (sound : Sound job)
     (sent : Sent (job .links) (links job) into next from delay) (beside : Beside job j cs leave before last) (task-of : j < tasks job)
-    (want : Want) (is-want : want ≡ wantOf j (task job j) (job .nodes) (nodes job) (getD into j 0)) where
-  wanted : Wanted next from delay cs leave before last (wantOf j (task job j) (job .nodes) (nodes job) (getD into j 0))
+    (peers : List ℕ) (by-group : Peers (job .nodes) (nodes job) peers) (want : Want)
+    (is-want : want ≡ wantOf j (task job j) (job .nodes) (nodes job) (getD into j 0)) where
+  wanted : Wanted next from delay cs leave before last peers (wantOf j (task job j) (job .nodes) (nodes job) (getD into j 0))
   wanted =
       record {
         job = job;
@@ -47,14 +49,15 @@ module _ (job : Job) (into next from delay : List ℕ) (j : ℕ) (cs : Copies) (
         into = sent-into job _ _ _ _ sent j (omega (arith, sound .tasks-most));
         fed = λ k p e. omega (arith, sound .rise k p);
         least-most = omega arith;
+        peers-are = by-group;
         beside = beside;
       }
 
-  pub asked : Wanted next from delay cs leave before last want
-  asked = subst (Wanted next from delay cs leave before last) (sym is-want) wanted
+  pub asked : Wanted next from delay cs leave before last peers want
+  asked = subst (Wanted next from delay cs leave before last peers) (sym is-want) wanted
 
-  pub told : (a : Placing) → Told next from delay cs leave before last want a → attempted a ≡ placeTask job (anywhere j) j (rowOf cs) j
+  pub told : (a : Placing) → Told next from delay cs leave before last peers want a → attempted a ≡ placeTask job (anywhere j) j (rowOf cs) j
   unfolding wanted
   told a f =
       subst (λ may. attempted a ≡ placeTask job may j (rowOf cs) j) (from-anywhere j)
-      (subst (λ want. Told next from delay cs leave before last want a) is-want f wanted)
+      (subst (λ want. Told next from delay cs leave before last peers want a) is-want f wanted)

@@ -12,7 +12,7 @@ use Rattle.reader.specs.First.{first, when}
 use Rattle.reader.specs.Limits.{maxNodes, maxStart, maxTime}
 use Rattle.rules.specs.declared.Copy.{Copy}
 use Rattle.copies.specs.declared.table.Copies.{Copies}
-use Rattle.copies.specs.Sets.{has, everyNode}
+use Rattle.copies.specs.Sets.{has, everyGroup}
 use Rattle.copies.specs.Table.{copyCount, nodeAt, entry}
 use Rattle.copies.specs.Chain.{Chain}
 use Rattle.copies.specs.Clash.{free}
@@ -81,10 +81,11 @@ fits cs last search c =
 -- the searches for a task's primary, which keeps the ready time, and for its backup
 abbrev pub primarySearch : Task → ℕ → Ready → ℕ → ℕ → Search
 primarySearch task nodes ready least shut =
-    record { task = task; nodes = nodes; ready = ready; least = max least (task .ready); set = everyNode; barred = shut }
+    record { task = task; nodes = nodes; ready = ready; least = max least (task .ready); set = everyGroup; barred = shut }
 
-abbrev pub backupSearch : Task → ℕ → Ready → ℕ → ℕ → Search
-backupSearch task nodes ready least set = record { task = task; nodes = nodes; ready = ready; least = least; set = set; barred = set }
+abbrev pub backupSearch : Task → ℕ → Ready → ℕ → ℕ → ℕ → Search
+backupSearch task nodes ready least set barred =
+    record { task = task; nodes = nodes; ready = ready; least = least; set = set; barred = barred }
 
 -- no entry ends later
 abbrev pub EndsSoon : Copies → ℕ → Type 0

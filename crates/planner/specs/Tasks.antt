@@ -22,7 +22,7 @@ use Rattle.rules.specs.Attempts.{Attempt, refused, placed}
 use Rattle.rules.specs.Planner.{placeTasks, anywhere}
 use Rattle.copies.specs.declared.table.Copies.{Copies}
 use Rattle.copies.specs.Arrival.{leaveBy, Leaving}
-use Rattle.copies.specs.Sets.{has, everyNode}
+use Rattle.copies.specs.Sets.{has, everyGroup}
 use Rattle.copies.specs.Table.{copyCount, nodeAt, entry, setAt, rowOf, Whole, Held}
 use Rattle.copies.specs.Chain.{Chained}
 use Rattle.planner.specs.declared.Planned.{Planned}
@@ -31,6 +31,7 @@ use Rattle.planner.specs.declared.task.Pair.{Pair}
 use Rattle.planner.specs.declared.task.Placing.{Placing}
 use Rattle.planner.specs.declared.task.Placing.the-variants.{At, Nowhere}
 use Rattle.planner.specs.Senders.{Net, Sent, Into, latestInput}
+use Rattle.planner.specs.Faults.{Peers}
 
 -- the primary's own test: it is on no node of the set `shut`, and starts no sooner than `least`
 unfoldable pub primaryFrom : ℕ → ℕ → Copy → Bool
@@ -54,8 +55,9 @@ pub record Beside (job : Job) (m : ℕ) (cs : Copies) (leave before last : List 
 abbrev pub wantOf : ℕ → Task → List Node → ℕ → ℕ → Want
 wantOf j task nodes count into = record { number = j; task = task; nodes = nodes; count = count; into = into; least = 0; shut = 0 }
 
--- what is wanted is a task of some job, whose links stand so by receiver, beside the first `rows` tasks; its senders are among them
-pub record Wanted (next from delay : List ℕ) (cs : Copies) (leave before last : List ℕ) (want : Want) : Type 0 where
+-- what is wanted is a task of some job, whose links stand so by receiver and whose nodes by group, beside the first `rows` tasks; its senders are
+-- among them
+pub record Wanted (next from delay : List ℕ) (cs : Copies) (leave before last peers : List ℕ) (want : Want) : Type 0 where
   pub job : Job
   pub rows : ℕ
   pub sound : Sound job
@@ -66,6 +68,7 @@ pub record Wanted (next from delay : List ℕ) (cs : Copies) (leave before last 
   pub into : Into job next from delay (want .number) (want .into)
   pub fed : (k : ℕ) → k < links job → link job k .to ≡ want .number → link job k .from < rows
   pub least-most : want .least ≤ latestInput
+  pub peers-are : Peers (want .nodes) (want .count) peers
   pub beside : Beside job rows cs leave before last
 
 -- both copies as a row, or the refusal
@@ -104,7 +107,7 @@ departed nodes j x leave = set (set leave (2 * j) (leaveBy nodes (x .primary))) 
 pub record Booked (j : ℕ) (x : Pair) (cs r : Copies) : Type 0 where
   pub whole : Whole r
   pub primary : entry r (2 * j) ≡ x .primary
-  pub primary-set : setAt r (2 * j) ≡ everyNode
+  pub primary-set : setAt r (2 * j) ≡ everyGroup
   pub backup : entry r (2 * j + 1) ≡ x .backup
   pub backup-set : setAt r (2 * j + 1) ≡ x .set
   pub other : (k : ℕ) → (k ≡ 2 * j → ⊥) → (k ≡ 2 * j + 1 → ⊥) → entry r k ≡ entry cs k

@@ -1,4 +1,5 @@
 // The planner: for each task by number, the earliest finish for its primary and then for its backup.
+use crate::faults::by_group;
 use crate::places::plan_of;
 use crate::senders::by_receiver;
 use crate::task::Placing;
@@ -50,8 +51,9 @@ fn all_planned(plan: Plan) -> Planned
     }
 }
 
-// The whole plan: tasks go by number. The nodes, starts and finishes of the copies are `on`, `go` and `end`, their results leave at `off`, and
-// chains of copies lead `up` from `top`: each call stands on one line so.
+// The whole plan: tasks go by number. The columns have short names, so that each call stands on one line: a link comes `by` a task with a `lag`, and the
+// next to its receiver is `nx`; a copy is `on` a node, to `go` at a start `to` a finish, its result `off` the node later; chains of copies lead `up` from
+// `hi`; the nodes of a group are its `kin`.
 pub fn plan_job(job: Job) -> Planned
     requires { ⌜ Sound job ⌝ }
     ensures { λ r. ⌜ r ≡ planned (planner job) ⌝ }
@@ -59,28 +61,30 @@ pub fn plan_job(job: Job) -> Planned
     let n = job.task_count as usize;
     let count = job.node_count as usize;
     let mut into = [0u32; Job::MAX_TASKS];
-    let mut next = [0u32; Job::MAX_LINKS];
-    let mut from = [0u32; Job::MAX_LINKS];
+    let mut nx = [0u32; Job::MAX_LINKS];
+    let mut by = [0u32; Job::MAX_LINKS];
     let mut lag = [0u32; Job::MAX_LINKS];
     let m = job.link_count as usize;
-    by_receiver(job.links, m, &mut into, &mut next, &mut from, &mut lag);
+    by_receiver(job.links, m, &mut into, &mut nx, &mut by, &mut lag);
     let mut on = [0u32; Copies::COUNT];
     let mut go = [0u32; Copies::COUNT];
-    let mut end = [0u32; Copies::COUNT];
+    let mut to = [0u32; Copies::COUNT];
     let mut off = [0u32; Copies::COUNT];
     let mut set = [0u32; Copies::COUNT];
     let mut up = [0usize; Copies::COUNT];
-    let mut top = [0usize; Job::MAX_NODES];
+    let mut hi = [0usize; Job::MAX_NODES];
+    let mut kin = [0u32; Copies::COUNT];
+    by_group(job.nodes, count, &mut kin);
     let mut j: usize = 0;
     while j < n {
         let w = Want::of(j, job.tasks[j], job.nodes, count, into[j] as usize);
-        let x = place_task(&next, &from, &lag, &on, &go, &end, &off, &set, &up, &top, w);
+        let x = place_task(&nx, &by, &lag, &on, &go, &to, &off, &set, &up, &hi, &kin, w);
         match x {
             Placing::Nowhere(r) => return unplanned(r),
             Placing::At(pair) => {
-                book(&mut on, &mut go, &mut end, &mut set, j, pair);
+                book(&mut on, &mut go, &mut to, &mut set, j, pair);
                 send_off(&mut off, job.nodes, j, pair);
-                chain_up(&mut up, &mut top, j, pair);
+                chain_up(&mut up, &mut hi, j, pair);
             }
         }
         j += 1;

@@ -27,8 +27,16 @@ pub fn primary_search(task: Task, nodes: usize, ready: Ready, least: u32, shut: 
     }
 }
 
-pub fn backup_search(task: Task, nodes: usize, ready: Ready, least: u32, faults: u32) -> Search
-    ensures { λ r. ⌜ r ≡ backupSearch task nodes ready least faults ⌝ }
+// A backup is on no node of a group in the fault set.
+pub fn backup_search(
+    task: Task,
+    nodes: usize,
+    ready: Ready,
+    least: u32,
+    faults: u32,
+    barred: u32,
+) -> Search
+    ensures { λ r. ⌜ r ≡ backupSearch task nodes ready least faults barred ⌝ }
 {
     Search {
         task,
@@ -36,7 +44,7 @@ pub fn backup_search(task: Task, nodes: usize, ready: Ready, least: u32, faults:
         ready,
         least,
         set: faults,
-        barred: faults,
+        barred,
     }
 }
 

@@ -1,5 +1,5 @@
 // Places for a copy.
-use copies::sets::holds_node;
+use copies::sets::holds;
 use rules::Copy;
 ghost use mathlib.Core.Path.{_≡_};
 ghost use mathlib.Core.Bool.{not};
@@ -36,7 +36,7 @@ pub fn may_run(run: u32, barred: u32, n: u32) -> bool
     if run == 0 {
         return false;
     }
-    !holds_node(barred, n)
+    !holds(barred, n)
 }
 
 // The copy on node n from a start on, where it finishes sooner than the best so far.

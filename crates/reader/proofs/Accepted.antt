@@ -35,23 +35,23 @@ numbers-good s n at low high e i p = field-good s (at i) low high (Value (at i))
 
 pub record GoodNodes (v : ℕ) (s : List ℕ) : Type 0 where
   pub count : Good s nodeSection minNodes maxNodes
-  pub entry : (i : ℕ) → i < nodeCount s → GoodFields v s (8 + i * nodeWidth v) nodeFields
+  pub entry : (i : ℕ) → i < nodeCount s → GoodFields v s (8 + i * nodeWidth v) (nodeFields i)
   pub room : taskSection v (nodeCount s) ≤ length s
 
-node-room : (v : ℕ) (s : List ℕ) (at : ℕ) → at ≤ length s → GoodFields v s at nodeFields → at + nodeWidth v ≤ length s
-unfolding nodeWidth
-node-room v s at = fields-room v s at nodeFields
+node-room : (v : ℕ) (s : List ℕ) (i at : ℕ) → at ≤ length s → GoodFields v s at (nodeFields i) → at + nodeWidth v ≤ length s
+unfolding nodeWidth nodeFields width
+node-room v s i at = fields-room v s at (nodeFields i)
 
 pub nodes-good : (v : ℕ) (s : List ℕ) → nodesFault v s ≡ none → GoodNodes v s
 unfolding nodesFault
 nodes-good v s e =
     let count = field-good s nodeSection minNodes maxNodes (Count nodeSection) (or-else-l _ _ e) in
-    let entry : ((i : ℕ) → i < nodeCount s → GoodFields v s (8 + i * nodeWidth v) nodeFields) =
-    λ i p. fields-good v s _ nodeFields (none-first (nodeCount s) _ (or-else-r _ _ e) i p) in
+    let entry : ((i : ℕ) → i < nodeCount s → GoodFields v s (8 + i * nodeWidth v) (nodeFields i)) =
+    λ i p. fields-good v s _ (nodeFields i) (none-first (nodeCount s) _ (or-else-r _ _ e) i p) in
     record {
       count = count;
       entry = entry;
-      room = rows-room 8 (nodeWidth v) (nodeCount s) (length s) (count .room) (λ i p h. node-room v s _ h (entry i p));
+      room = rows-room 8 (nodeWidth v) (nodeCount s) (length s) (count .room) (λ i p h. node-room v s i _ h (entry i p));
     }
 
 pub record GoodTask (v : ℕ) (s : List ℕ) (at p : ℕ) : Type 0 where

@@ -13,7 +13,7 @@ use Rattle.reader.proofs.FillLaws.{fill-get}
 
 module _ (s : List ℕ) where
   pub node-at : (i : ℕ) → nodeCount s ≤ maxNodes → i < nodeCount s →
-      node (jobAt s) i ≡ nodeAt (jobVersion s) s (8 + i * nodeWidth (jobVersion s))
+      node (jobAt s) i ≡ nodeAt (jobVersion s) s i (8 + i * nodeWidth (jobVersion s))
   unfolding jobAt nodesAt
   node-at i m p = fill-get _ (replicate maxNodes noNode) noNode (nodeCount s) i p m
 

@@ -55,10 +55,10 @@ module _ {v : ℕ} {s : List ℕ} {at : ℕ} {f : Field} {fs : List Field} {y : 
     }
 
 -- a node, and a task, whose run times stand behind its fields
-pub node-done : {v : ℕ} {s : List ℕ} {at end : ℕ} (xs : List ℕ) → FieldsRead v s at nodeFields xs end →
-    Reads (fieldsFault v s at nodeFields) Done ((nodeFrom xs ≡ nodeAt v s at) × (end ≡ at + nodeWidth v))
-unfolding nodeAt nodeWidth
-node-done xs r = finished (r .fault) refl (ap nodeFrom (r .values), r .end-is)
+pub node-done : {v : ℕ} {s : List ℕ} {at end : ℕ} (i : ℕ) (xs : List ℕ) → FieldsRead v s at (nodeFields i) xs end →
+    Reads (fieldsFault v s at (nodeFields i)) Done ((nodeFrom xs ≡ nodeAt v s i at) × (end ≡ at + nodeWidth v))
+unfolding nodeAt nodeWidth nodeFields width
+node-done i xs r = finished (r .fault) refl (ap nodeFrom (r .values), r .end-is)
 
 module _ {v : ℕ} {s : List ℕ} {at : ℕ} (p : ℕ) where
   pub task-stopped : {r : Refusal} {a : Answer} {A : Type 0} → Stops v s at taskFields r → a ≡ Refused r → Reads (taskFault v s at p) a A

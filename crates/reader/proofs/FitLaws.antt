@@ -77,7 +77,7 @@ module _ (s : List ℕ) where
   nodes-fit v =
       fits-or-else _ _ (count-fits nodeSection minNodes maxNodes (omega arith)) (λ e.
       let g = field-good s nodeSection minNodes maxNodes (Count nodeSection) e in
-      fits-first _ _ (λ i p. fields-fit v _ nodeFields (omega (arith, task-section-most v i (omega arith), fields-wide .0))))
+      fits-first _ _ (λ i p. fields-fit v _ (nodeFields i) (omega (arith, task-section-most v i (omega arith), fields-wide .0 i))))
 
   pub task-fits : (v at p : ℕ) → at ≤ 2 ^ 16 → p ≤ maxNodes → FaultFits (taskFault v s at p)
   unfolding taskFault runFault

@@ -17,23 +17,23 @@ use Rattle.reader.specs.Fields.{nodeFields, taskFields, reaches, widthIf
 use Rattle.reader.proofs.VersionLaws.{width-most}
 use Rattle.reader.proofs.Accepted.{GoodJob, GoodPlan, job-good, plan-good}
 
--- 'the longest job has 10,576 bytes', 10,832 in version 2, and 10,896 in version 3, the newest
-pub longest-is : (longestJob 1 ≡ 10_576) × (longestJob 2 ≡ 10_832) × (longestJob newestVersion ≡ maxJobLength)
+-- 'the longest job has 10,576 bytes', 10,832 in version 2, 10,896 in version 3, and 10,960 in version 4, the newest
+pub longest-is : (longestJob 1 ≡ 10_576) × (longestJob 2 ≡ 10_832) × (longestJob 3 ≡ 10_896) × (longestJob newestVersion ≡ maxJobLength)
 unfolding nodeWidth taskWidth width nodeFields taskFields reaches widthIf
-longest-is = (refl, refl, refl)
+longest-is = (refl, refl, refl, refl)
 
 -- entries have few fields
-pub fields-wide : (length nodeFields ≤ 8) × (length taskFields ≤ 8)
+pub fields-wide : ((n : ℕ) → length (nodeFields n) ≤ 8) × (length taskFields ≤ 8)
 unfolding nodeFields taskFields
-fields-wide = (omega arith, omega arith)
+fields-wide = (λ n. omega arith, omega arith)
 
 longest-most : (v : ℕ) → longestJob v ≤ maxJobLength
 unfolding nodeWidth taskWidth nodeFields taskFields
-longest-most v = omega (arith, width-most v nodeFields, width-most v taskFields)
+longest-most v = omega (arith, width-most v (nodeFields 0), width-most v taskFields)
 
 pub node-width-most : (v : ℕ) → nodeWidth v ≤ 32
 unfolding nodeWidth
-node-width-most v = omega (arith, width-most v nodeFields, fields-wide .0)
+node-width-most v = omega (arith, width-most v (nodeFields 0), fields-wide .0 0)
 
 pub task-width-most : (v p : ℕ) → p ≤ maxNodes → taskWidth v p ≤ 96
 unfolding taskWidth

@@ -28,9 +28,9 @@ pub none-value : {A : Type 0} (o : Option Refusal) (a b : A) → o ≡ none → 
 none-value o a b e = rw e
 
 -- what is promised of one node in version v, of one task, of one link between n tasks, and of one place
-node-sound : (v : ℕ) (s : List ℕ) (at : ℕ) → GoodFields v s at nodeFields → AllWithin v nodeFields (nodeValues (nodeAt v s at))
+node-sound : (v : ℕ) (s : List ℕ) (i at : ℕ) → GoodFields v s at (nodeFields i) → AllWithin v (nodeFields i) (nodeValues (nodeAt v s i at))
 unfolding nodeAt fieldsAt nodeFields
-node-sound v s at = fields-within v s at nodeFields
+node-sound v s i at = fields-within v s at (nodeFields i)
 
 pub record SoundTask (v p : ℕ) (t : Task) : Type 0 where
   pub fields : AllWithin v taskFields (taskValues t)
@@ -64,10 +64,10 @@ place-sound s at p run m g = record {
 }
 
 module _ (s : List ℕ) (g : GoodJob s) where
-  nodes-sound : (i : ℕ) → i < nodeCount s → AllWithin (jobVersion s) nodeFields (nodeValues (node (jobAt s) i))
+  nodes-sound : (i : ℕ) → i < nodeCount s → AllWithin (jobVersion s) (nodeFields i) (nodeValues (node (jobAt s) i))
   nodes-sound i p =
-      subst (λ x. AllWithin (jobVersion s) nodeFields (nodeValues x)) (sym (node-at s i (g .nodes .count .most) p))
-      (node-sound (jobVersion s) s _ (g .nodes .entry i p))
+      subst (λ x. AllWithin (jobVersion s) (nodeFields i) (nodeValues x)) (sym (node-at s i (g .nodes .count .most) p))
+      (node-sound (jobVersion s) s i _ (g .nodes .entry i p))
 
   tasks-sound : (j : ℕ) → j < taskCount s → SoundTask (jobVersion s) (nodeCount s) (task (jobAt s) j)
   tasks-sound j p =
@@ -99,6 +99,8 @@ job-sound s e =
       detect-most = λ i p. node i p .0 .most refl;
       send-most = λ i p. within-most _ _ _ (node i p .1 .0) (omega arith);
       send-lacks = λ i p. within-lacks _ _ _ (node i p .1 .0);
+      group-most = λ i p. within-most _ _ _ (node i p .1 .1 .0) (omega (arith, g .nodes .count .most));
+      group-lacks = λ i p. within-lacks _ _ _ (node i p .1 .1 .0);
       tasks-least = g .tasks .count .least;
       tasks-most = g .tasks .count .most;
       ready-most = λ j p. within-most _ _ _ (task j p .fields .0) (omega arith);

@@ -62,13 +62,14 @@ module _ {A : Type 0} (counted : Option Refusal) (n : ℕ) (fault : ℕ → Opti
     pub read-done : k ≤ i → Reads (counted or-else first n fault) Done ((k ≡ n) × (list ≡ fill k value empty))
     read-done = read-end refl
 
--- rows of width w from an offset on, of which each tells the offset behind it
-module _ {A : Type 0} (counted : Option Refusal) (n : ℕ) (fault : ℕ → Option Refusal) (value : ℕ → A) (empty : List A) (from w : ℕ) where
+-- rows of width w from an offset on, of which each tells the offset behind it: each has its fault and its value by its number and its offset
+module _ {A : Type 0} (counted : Option Refusal) (n : ℕ) (fault : ℕ → ℕ → Option Refusal) (value : ℕ → ℕ → A) (empty : List A)
+    (from w : ℕ) where
   abbrev rowFault : ℕ → Option Refusal
-  rowFault i = fault (from + i * w)
+  rowFault i = fault i (from + i * w)
 
   abbrev rowValue : ℕ → A
-  rowValue i = value (from + i * w)
+  rowValue i = value i (from + i * w)
 
   -- the first i of k rows are read, up to an offset
   pub record RowsTo (k i at : ℕ) (list : List A) : Type 0 where
@@ -86,15 +87,15 @@ module _ {A : Type 0} (counted : Option Refusal) (n : ℕ) (fault : ℕ → Opti
         valued (λ v. (v .0, v .1, inv .here ∙ ap (λ x. from + x * w) e)) (read-end _ _ _ _ _ k i list (inv .read) told all)
 
     -- the next row
-    module _ {a : Answer} {x : A} {end : ℕ} (row : Reads (fault at) a ((x ≡ value at) × (end ≡ at + w))) (below : i < k) where
+    module _ {a : Answer} {x : A} {end : ℕ} (row : Reads (fault i at) a ((x ≡ value i at) × (end ≡ at + w))) (below : i < k) where
       pub rows-more : a ≡ Done → RowsTo k (i + 1) end (set list i x)
       rows-more told =
           let v = reads-value row told in
-          let fine = sym (ap fault (inv .here)) ∙ reads-none row told in
+          let fine = sym (ap (fault i) (inv .here)) ∙ reads-none row told in
           record {
-            read = read-more _ _ _ _ _ k i list (inv .read) x below fine (v .0 ∙ ap value (inv .here));
+            read = read-more _ _ _ _ _ k i list (inv .read) x below fine (v .0 ∙ ap (value i) (inv .here));
             here = omega (arith, inv .here, v .1);
           }
 
       pub rows-stop : {X : Type 0} {b : Answer} {r : Refusal} → a ≡ Refused r → b ≡ Refused r → Reads (counted or-else first n rowFault) b X
-      rows-stop {X} {b} {r} bad told = read-stop _ _ _ _ _ k i list (inv .read) below (sym (ap fault (inv .here)) ∙ reads-some row bad) told
+      rows-stop {X} {b} {r} bad told = read-stop _ _ _ _ _ k i list (inv .read) below (sym (ap (fault i) (inv .here)) ∙ reads-some row bad) told

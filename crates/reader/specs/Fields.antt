@@ -9,7 +9,7 @@ use Rattle.reader.specs.declared.job.Node.{Node}
 use Rattle.reader.specs.declared.job.Task.{Task}
 use Rattle.reader.specs.declared.refusal.Refusal.{Refusal}
 use Rattle.reader.specs.First.{_or-else_}
-use Rattle.reader.specs.Limits.{readySince, sendSince, maxDetect, maxSend, minDeadline, maxTime}
+use Rattle.reader.specs.Limits.{readySince, sendSince, groupSince, maxDetect, maxSend, maxGroup, minDeadline, maxTime}
 use Rattle.reader.specs.Number.{numberAt, valueFault}
 
 -- a number of an entry: the first version that has it (0: every version has it), its limits, and what it counts as where the version lacks it
@@ -23,10 +23,15 @@ pub record Field : Type 0 where
 abbrev pub always : ℕ → ℕ → Field
 always low high = record { since = 0; low = low; high = high; lacking = 0 }
 
--- 'per node its detect time (0 to 1,000)'; (iv) 'Job version 3 adds to each node a send time (0 to 1,000), after its detect time. .. Versions 1 and
--- 2 read as send 0'
-unfoldable pub nodeFields : List Field
-nodeFields = always 0 maxDetect ∷ record { since = sendSince; low = 0; high = maxSend; lacking = 0 } ∷ []
+-- of node n: 'per node its detect time (0 to 1,000)'; (iv) 'Job version 3 adds to each node a send time (0 to 1,000), after its detect time. ..
+-- Versions 1 and 2 read as send 0'; (vi) 'Job version 4 gives each node, after its send time, a supply group (0 to 15); in older versions each
+-- node is its own group'
+unfoldable pub nodeFields : ℕ → List Field
+nodeFields n =
+    always 0 maxDetect
+    ∷ record { since = sendSince; low = 0; high = maxSend; lacking = 0 }
+    ∷ record { since = groupSince; low = 0; high = maxGroup; lacking = n }
+    ∷ []
 
 -- (ii) 'a ready time (0 to 1,000,000), written before its deadline in job version 2. .. Version 1 jobs read as ready 0'; 'its deadline
 -- (1 to 1,000,000)'; behind them stand the run times
@@ -35,10 +40,10 @@ taskFields = record { since = readySince; low = 0; high = maxTime; lacking = 0 }
 
 -- the values of an entry, one for each field; and the entry of such values
 abbrev pub nodeValues : Node → List ℕ
-nodeValues x = x .detect ∷ x .send ∷ []
+nodeValues x = x .detect ∷ x .send ∷ x .group ∷ []
 
 abbrev pub nodeFrom : List ℕ → Node
-nodeFrom xs = record { detect = getD xs 0 0; send = getD xs 1 0 }
+nodeFrom xs = record { detect = getD xs 0 0; send = getD xs 1 0; group = getD xs 2 0 }
 
 abbrev pub taskValues : Task → List ℕ
 taskValues x = x .ready ∷ x .deadline ∷ []

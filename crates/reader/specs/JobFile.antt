@@ -22,12 +22,12 @@ use Rattle.reader.specs.Fields.{nodeFields, taskFields, nodeFrom, taskFr
 use Rattle.reader.specs.Refusals.{answered}
 use Rattle.reader.specs.Sound.{below, Sound}
 
--- the version; and the bytes of an entry in version v, of a node and of a task with p run times
+-- the version; and the bytes of an entry in version v, of a node, whichever it is, and of a task with p run times
 abbrev pub jobVersion : List ℕ → ℕ
 jobVersion s = numberAt s 0
 
 unfoldable pub nodeWidth : ℕ → ℕ
-nodeWidth v = width v nodeFields
+nodeWidth v = width v (nodeFields 0)
 
 unfoldable pub taskWidth : ℕ → ℕ → ℕ
 taskWidth v p = width v taskFields + 4 * p
@@ -52,13 +52,14 @@ longestJob v = jobLength v maxNodes maxTasks maxLinks
 -- 'node count P (2 to 16), then per node ..'
 unfoldable pub nodesFault : ℕ → List ℕ → Option Refusal
 nodesFault v s =
-    countFault s nodeSection minNodes maxNodes or-else first (numberAt s nodeSection) (λ i. fieldsFault v s (8 + i * nodeWidth v) nodeFields)
+    countFault s nodeSection minNodes maxNodes or-else first (numberAt s nodeSection) (λ i. fieldsFault v s (8 + i * nodeWidth v) (nodeFields i))
 
-unfoldable pub nodeAt : ℕ → List ℕ → ℕ → Node
-nodeAt v s at = nodeFrom (fieldsAt v s at nodeFields)
+-- node i at an offset
+unfoldable pub nodeAt : ℕ → List ℕ → ℕ → ℕ → Node
+nodeAt v s i at = nodeFrom (fieldsAt v s at (nodeFields i))
 
 unfoldable pub nodesAt : ℕ → List ℕ → ℕ → List Node
-nodesAt v s p = fill p (λ i. nodeAt v s (8 + i * nodeWidth v)) (replicate maxNodes noNode)
+nodesAt v s p = fill p (λ i. nodeAt v s i (8 + i * nodeWidth v)) (replicate maxNodes noNode)
 
 -- 'P run times, one for each node (0 to 1,000,000)', from an offset
 unfoldable pub runFault : List ℕ → ℕ → ℕ → Option Refusal

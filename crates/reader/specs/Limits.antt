@@ -2,19 +2,22 @@
 use Prim.Native.Nat.{ℕ}
 use Rattle.reader.specs.declared.limits.Limits.{Limits}
 
--- job 'version (1)', and 'job version 2', 'job version 3' of requests (ii) and (iv)
+-- job 'version (1)', and 'job version 2', '3', '4' of requests (ii), (iv) and (vi)
 abbrev pub firstVersion : ℕ
 firstVersion = 1
 
 abbrev pub newestVersion : ℕ
-newestVersion = 3
+newestVersion = 4
 
--- the first versions with a ready time, and with a send time
+-- the first versions with a ready time, with a send time, and with a supply group
 abbrev pub readySince : ℕ
 readySince = 2
 
 abbrev pub sendSince : ℕ
 sendSince = 3
+
+abbrev pub groupSince : ℕ
+groupSince = 4
 
 -- plan 'version (1)'
 abbrev pub planVersion : ℕ
@@ -34,6 +37,10 @@ maxDetect = 1_000
 -- (iv) 'to each node a send time (0 to 1,000)'
 abbrev pub maxSend : ℕ
 maxSend = 1_000
+
+-- (vi) 'a supply group (0 to 15)'
+abbrev pub maxGroup : ℕ
+maxGroup = 15
 
 -- 'task count N (1 to 64)'
 abbrev pub minTasks : ℕ
@@ -58,9 +65,9 @@ maxTime = 1_000_000
 abbrev pub maxStart : ℕ
 maxStart = 1_000_000
 
--- 'the longest job has 10,576 bytes' in version 1, 10,832 in version 2 and 10,896 in version 3 (`longestJob`)
+-- 'the longest job has 10,576 bytes' in version 1, 10,832 in version 2, 10,896 in version 3 and 10,960 in version 4 (`longestJob`)
 abbrev pub maxJobLength : ℕ
-maxJobLength = 10_896
+maxJobLength = 10_960
 
 -- 'the file has 8 + 16 × N bytes', N at most 64
 abbrev pub maxPlanLength : ℕ
@@ -73,10 +80,12 @@ limits = record {
   «newest_version» = newestVersion;
   «ready_since» = readySince;
   «send_since» = sendSince;
+  «group_since» = groupSince;
   «min_nodes» = minNodes;
   «max_nodes» = maxNodes;
   «max_detect» = maxDetect;
   «max_send» = maxSend;
+  «max_group» = maxGroup;
   «min_tasks» = minTasks;
   «max_tasks» = maxTasks;
   «min_deadline» = minDeadline;

@@ -1,4 +1,4 @@
--- The jobs and plans of document 01's samples, and of those of requests (ii) and (iv).
+-- The jobs and plans of document 01's samples, and of those of requests (ii), (iv) and (vi).
 use Prim.Native.Nat.{ℕ}
 use mathlib.Core.List.{List, [], _∷_}
 use lib.ListN.{length, getD, replicate}
@@ -23,22 +23,26 @@ readyTask ready deadline run = record { ready = ready; deadline = deadline; run 
 abbrev pub taskOf : ℕ → ℕ → Task
 taskOf = readyTask 0
 
--- a node with detect 1 and this send time
-abbrev pub sendNode : ℕ → Node
-sendNode send = record { detect = 1; send = send }
+-- a node with detect 1, this send time and this group
+abbrev pub nodeOf : ℕ → ℕ → Node
+nodeOf send group = record { detect = 1; send = send; group = group }
 
--- 3 nodes with detect 1 and these send times, these tasks and these links, in this version
-abbrev pub sendingIn : ℕ → ℕ → ℕ → ℕ → List Task → List Link → Job
-sendingIn version a b c ts ls =
+-- these nodes, these tasks and these links, in this version
+abbrev pub rackIn : ℕ → List Node → List Task → List Link → Job
+rackIn version ns ts ls =
     record {
       version = version;
-      «node_count» = 3;
-      nodes = array maxNodes noNode (sendNode a ∷ sendNode b ∷ sendNode c ∷ []);
+      «node_count» = length ns;
+      nodes = array maxNodes noNode ns;
       «task_count» = length ts;
       tasks = array maxTasks blankTask ts;
       «link_count» = length ls;
       links = array maxLinks noLink ls;
     }
+
+-- 3 nodes with detect 1 and these send times, each its own group
+abbrev pub sendingIn : ℕ → ℕ → ℕ → ℕ → List Task → List Link → Job
+sendingIn version a b c = rackIn version (nodeOf a 0 ∷ nodeOf b 1 ∷ nodeOf c 2 ∷ [])
 
 abbrev pub jobIn : ℕ → List Task → List Link → Job
 jobIn version = sendingIn version 0 0 0
@@ -71,12 +75,28 @@ JIn version a b = jobIn version (readyTask a 30 4 ∷ readyTask b 30 3 ∷ []) (
 abbrev pub JReady : ℕ → ℕ → Job
 JReady = JIn 2
 
+abbrev tasksOfJ : List Task
+tasksOfJ = taskOf 30 4 ∷ taskOf 30 3 ∷ []
+
 -- J in another version, with these send times; and in version 3
 abbrev pub JSendingIn : ℕ → ℕ → ℕ → ℕ → Job
-JSendingIn version a b c = sendingIn version a b c (taskOf 30 4 ∷ taskOf 30 3 ∷ []) (linkOf 0 1 2 ∷ [])
+JSendingIn version a b c = sendingIn version a b c tasksOfJ (linkOf 0 1 2 ∷ [])
 
 abbrev pub JSending : ℕ → ℕ → ℕ → Job
 JSending = JSendingIn 3
+
+-- J in another version, with these groups; and in version 4, also without its link
+abbrev groupedIn : ℕ → List Link → ℕ → ℕ → ℕ → Job
+groupedIn version ls a b c = rackIn version (nodeOf 0 a ∷ nodeOf 0 b ∷ nodeOf 0 c ∷ []) tasksOfJ ls
+
+abbrev pub JGroupedIn : ℕ → ℕ → ℕ → ℕ → Job
+JGroupedIn version = groupedIn version (linkOf 0 1 2 ∷ [])
+
+abbrev pub JGrouped : ℕ → ℕ → ℕ → Job
+JGrouped = JGroupedIn 4
+
+abbrev pub JGroupedWithoutLink : ℕ → ℕ → ℕ → Job
+JGroupedWithoutLink = groupedIn 4 []
 
 abbrev pub JWithoutLink : Job
 JWithoutLink = twoTasks 30 []

@@ -10,9 +10,9 @@ use Rattle.reader.specs.declared.job.Job.{Job}
 use Rattle.reader.specs.declared.plan.Place.{Place}
 use Rattle.reader.specs.declared.plan.Plan.{Plan}
 use Rattle.reader.specs.Tests.{_and_, _or_}
-use Rattle.reader.specs.Limits.{firstVersion, newestVersion, readySince, sendSince, planVersion, minNodes, maxNodes, maxDetect, maxSend}
-use Rattle.reader.specs.Limits.{minTasks, maxTasks, minDeadline, maxLinks, maxTime, maxStart}
-use Rattle.reader.specs.Entries.{nodes, tasks, links, detect, send, ready, deadline, run, link, place}
+use Rattle.reader.specs.Limits.{firstVersion, newestVersion, readySince, sendSince, groupSince, planVersion, minNodes, maxNodes, maxDetect}
+use Rattle.reader.specs.Limits.{maxSend, maxGroup, minTasks, maxTasks, minDeadline, maxLinks, maxTime, maxStart}
+use Rattle.reader.specs.Entries.{nodes, tasks, links, detect, send, group, ready, deadline, run, link, place}
 
 -- 'links rise strictly by from, then to': l stands below m
 unfoldable pub below : Link → Link → Bool
@@ -26,6 +26,8 @@ pub record Sound (job : Job) : Type 0 where
   pub detect-most : (n : ℕ) → n < nodes job → detect job n ≤ maxDetect
   pub send-most : (n : ℕ) → n < nodes job → send job n ≤ maxSend
   pub send-lacks : (n : ℕ) → n < nodes job → job .version < sendSince → send job n ≡ 0
+  pub group-most : (n : ℕ) → n < nodes job → group job n ≤ maxGroup
+  pub group-lacks : (n : ℕ) → n < nodes job → job .version < groupSince → group job n ≡ n
   pub tasks-least : minTasks ≤ tasks job
   pub tasks-most : tasks job ≤ maxTasks
   pub ready-most : (j : ℕ) → j < tasks job → ready job j ≤ maxTime

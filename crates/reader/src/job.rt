@@ -2,9 +2,11 @@
 ghost use mathlib.Core.Path.{_≡_};
 ghost use Rattle.reader.specs.Entries.{emptyJob};
 
+// One loss takes every node of a group.
 pub struct Node {
     pub detect: u32,
     pub send: u32,
+    pub group: u32,
 }
 
 // A run time of 0 says that the node cannot run the task.
@@ -34,12 +36,14 @@ pub struct Job {
 impl Job {
     pub const FIRST_VERSION: usize = 1;
 
-    pub const NEWEST_VERSION: usize = 3;
+    pub const NEWEST_VERSION: usize = 4;
 
     // The versions with which fields came.
     pub const READY_SINCE: usize = 2;
 
     pub const SEND_SINCE: usize = 3;
+
+    pub const GROUP_SINCE: usize = 4;
 
     pub const MIN_NODES: usize = 2;
 
@@ -48,6 +52,8 @@ impl Job {
     pub const MAX_DETECT: usize = 1000;
 
     pub const MAX_SEND: usize = 1000;
+
+    pub const MAX_GROUP: usize = 15;
 
     pub const MIN_TASKS: usize = 1;
 
@@ -61,12 +67,16 @@ impl Job {
     pub const MAX_TIME: usize = 1_000_000;
 
     // Bytes of the longest file.
-    pub const MAX_LENGTH: usize = 10_896;
+    pub const MAX_LENGTH: usize = 10_960;
 
     pub fn empty() -> Job
         ensures { λ r. ⌜ r ≡ emptyJob ⌝ }
     {
-        let node = Node { detect: 0, send: 0 };
+        let node = Node {
+            detect: 0,
+            send: 0,
+            group: 0,
+        };
         let task = Task {
             ready: 0,
             deadline: 0,

@@ -92,7 +92,11 @@ fn width_if(has: bool) -> usize
 fn no_node(answer: Answer) -> OneNode
     ensures { λ r. ⌜ (r .answer ≡ answer) × (r .end ≡ 0) ⌝ }
 {
-    let node = Node { detect: 0, send: 0 };
+    let node = Node {
+        detect: 0,
+        send: 0,
+        group: 0,
+    };
     OneNode {
         answer,
         end: 0,
@@ -100,33 +104,48 @@ fn no_node(answer: Answer) -> OneNode
     }
 }
 
-// One node at an offset: its detect time, in every version, and its send time where the version has it.
-fn read_node(file: &[u8], version: usize, at: usize) -> OneNode
+// Node `number` at an offset: its detect time, in every version, and its send time and group where the version has them. It is its own group
+// where it lacks one.
+fn read_node(file: &[u8], version: usize, number: u32, at: usize) -> OneNode
     requires { ⌜ at ≤ 16384 ⌝ }
     ensures { λ r. ⌜ r .end ≤ at + 32 ⌝ }
-    ensures { λ r. ⌜ Reads (fieldsFault version (now (file .entry)) at nodeFields) (r .answer)
-        ((r .node ≡ nodeAt version (now (file .entry)) at) × (r .end ≡ at + nodeWidth version)) ⌝ }
+    ensures { λ r. ⌜ Reads (fieldsFault version (now (file .entry)) at (nodeFields number)) (r .answer)
+        ((r .node ≡ nodeAt version (now (file .entry)) number at) × (r .end ≡ at + nodeWidth version)) ⌝ }
 {
     let d = field(file, at, 0, Job::MAX_DETECT, Refusal::Value(at));
     let Number::Is(detect) = d else {
         return no_node(handed_on(d));
     };
-    let has = Job::SEND_SINCE <= version;
-    let s = field_if(file, 0, at + 4, has, Job::MAX_SEND, 0);
+    let has_send = Job::SEND_SINCE <= version;
+    let s = field_if(file, 0, at + 4, has_send, Job::MAX_SEND, 0);
     let Number::Is(send) = s else {
         return no_node(handed_on(s));
     };
+    let then = at + 4 + width_if(has_send);
+    let has_group = Job::GROUP_SINCE <= version;
+    let g = field_if(file, 0, then, has_group, Job::MAX_GROUP, number);
+    let Number::Is(group) = g else {
+        return no_node(handed_on(g));
+    };
     OneNode {
         answer: Answer::Done,
-        end: at + 4 + width_if(has),
-        node: Node { detect, send },
+        end: then + width_if(has_group),
+        node: Node {
+            detect,
+            send,
+            group,
+        },
     }
 }
 
 fn no_nodes(answer: Answer) -> Nodes
     ensures { λ r. ⌜ (r .answer ≡ answer) × (r .end ≡ 0) × (r .count ≡ 0) × (r .list ≡ replicate maxNodes noNode) ⌝ }
 {
-    let none = Node { detect: 0, send: 0 };
+    let none = Node {
+        detect: 0,
+        send: 0,
+        group: 0,
+    };
     Nodes {
         answer,
         end: 0,
@@ -150,7 +169,7 @@ fn read_nodes(file: &[u8], version: usize) -> Nodes
     let mut at: usize = 8;
     let mut i: usize = 0;
     while i < count {
-        let n = read_node(file, version, at);
+        let n = read_node(file, version, i as u32, at);
         let answer = n.answer;
         let Answer::Done = answer else {
             return no_nodes(answer);

@@ -1,22 +1,22 @@
 -- The copies of a task: those of the plan's row, within their limits; and its run.
 use Prim.Native.Nat.{ℕ, _+_, _≤_, _<_}
 use mathlib.Core.Bool.{Bool, true, false}
-use mathlib.Core.Path.{_≡_}
+use mathlib.Core.Path.{_≡_, refl}
 use native.Mathlib.Omega.{arith}
 use Rattle.reader.specs.declared.job.Job.{Job}
 use Rattle.reader.specs.declared.plan.Plan.{Plan}
 use Rattle.reader.specs.Tests.{_and_}
 use Rattle.reader.specs.Limits.{maxTime, maxStart}
-use Rattle.reader.specs.Entries.{tasks, task, place, detect}
+use Rattle.reader.specs.Entries.{tasks, node, task, place, detect}
 use Rattle.reader.specs.Sound.{Sound, PlanSound}
 use Rattle.reader.proofs.TestLaws.{split}
 use Rattle.rules.specs.declared.Loss.{Loss}
-use Rattle.rules.specs.Copies.{copy}
+use Rattle.rules.specs.Copies.{copy, domain}
 use Rattle.rules.specs.Rules.{Row, rows, ruleReady, ruleB}
 use Rattle.rules.specs.Replay.{TaskRun, isFinished, attempt, fed, runPrimary, runBackup, runTask, finishOf}
 use Rattle.rules.proofs.FaultSetLaws.{row-primary, row-backup}
 use Rattle.replay.specs.declared.states.Pair.{Pair}
-use Rattle.replay.specs.States.{PairFits, pairAt, pairRow, runFed, outcome}
+use Rattle.replay.specs.States.{PairFits, pairAt, InGroups, pairRow, runFed, outcome}
 
 -- a backup whose primary finished is not activated
 pub once-finished : (job : Job) (t : ℕ → Row) (loss : Loss) (before : ℕ → TaskRun) (j : ℕ) (x : TaskRun) → x ≡ runTask job t loss before j
@@ -35,7 +35,11 @@ run-pair job t loss before j x f g p b d fp fb = rw (← fp, ← fb, d, p, b)
 -- the copies of task j
 module _ (job : Job) (plan : Plan) (both : Sound job × PlanSound job plan) where
   abbrev pub pair : ℕ → Pair
-  pair j = pairAt (task job j) (place plan j) (detect job (place plan j .«primary_node»))
+  pair j = let x = place plan j in pairAt (task job j) x (node job (x .«primary_node»)) (node job (x .«backup_node»))
+
+  pub pair-groups : (j : ℕ) (x : Pair) → x ≡ pair j → InGroups job x
+  unfolding domain
+  pair-groups j x e = rw e (refl, refl)
 
   module _ (j : ℕ) (below : j < tasks job) where
     pub fits : PairFits (task job j) (place plan j) (detect job (place plan j .«primary_node»))

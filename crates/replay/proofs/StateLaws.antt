@@ -27,22 +27,23 @@ module _ (job : Job) (loss : Loss) (may : Bool) (c : Copy) where
   unfolding attempt started
   state-safe e n = rw (e, n)
 
-  module _ (q f : ℕ) (e : may ≡ true) (n : loss ≡ Lost q f) where
-    pub state-away : (c .node ≡ q → ⊥) → 2 ≡ stateNumber (attempt job loss may c)
-    unfolding attempt started domain
-    state-away h = rw (e, n, ne-eqb (c .node) q h)
+  -- on a node of this group
+  module _ (q f group : ℕ) (e : may ≡ true) (n : loss ≡ Lost q f) (on : domain job (c .node) ≡ group) where
+    pub state-away : (group ≡ q → ⊥) → 2 ≡ stateNumber (attempt job loss may c)
+    unfolding attempt started
+    state-away h = rw (e, n, on, ne-eqb group q h)
 
-    pub state-late : c .node ≡ q → f ≤ c .start → 0 ≡ stateNumber (attempt job loss may c)
-    unfolding attempt started domain
-    state-late h p = rw (e, n, eq-eqb (c .node) q h, le-ltb (c .start) f p)
+    pub state-late : group ≡ q → f ≤ c .start → 0 ≡ stateNumber (attempt job loss may c)
+    unfolding attempt started
+    state-late h p = rw (e, n, on, eq-eqb group q h, le-ltb (c .start) f p)
 
-    pub state-finished : c .node ≡ q → c .start < f → c .finish ≤ f → 2 ≡ stateNumber (attempt job loss may c)
-    unfolding attempt started domain
-    state-finished h p r = rw (e, n, eq-eqb (c .node) q h, lt-ltb (c .start) f p, le-leb (c .finish) f r)
+    pub state-finished : group ≡ q → c .start < f → c .finish ≤ f → 2 ≡ stateNumber (attempt job loss may c)
+    unfolding attempt started
+    state-finished h p r = rw (e, n, on, eq-eqb group q h, lt-ltb (c .start) f p, le-leb (c .finish) f r)
 
-    pub state-cut : c .node ≡ q → c .start < f → f < c .finish → 1 ≡ stateNumber (attempt job loss may c)
-    unfolding attempt started domain
-    state-cut h p r = rw (e, n, eq-eqb (c .node) q h, lt-ltb (c .start) f p, lt-leb (c .finish) f r)
+    pub state-cut : group ≡ q → c .start < f → f < c .finish → 1 ≡ stateNumber (attempt job loss may c)
+    unfolding attempt started
+    state-cut h p r = rw (e, n, on, eq-eqb group q h, lt-ltb (c .start) f p, lt-leb (c .finish) f r)
 
 -- states by their numbers
 pub two-finished : (s : State) → isFinished s ≡ true → stateNumber s ≡ 2

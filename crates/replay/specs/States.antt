@@ -1,15 +1,18 @@
 -- One task on its own: its copies, its run and the numbers of that run.
 use Prim.Native.Nat.{ℕ, _+_, _≤_, _<_}
 use mathlib.Core.Bool.{Bool, false, not}
+use mathlib.Core.Path.{_≡_}
 use lib.Dec.{leb}
 use lib.ListN.{getD}
 use Rattle.reader.specs.declared.job.Job.{Job}
+use Rattle.reader.specs.declared.job.Node.{Node}
 use Rattle.reader.specs.declared.job.Task.{Task}
 use Rattle.reader.specs.declared.plan.Place.{Place}
 use Rattle.reader.specs.Tests.{_and_}
 use Rattle.reader.specs.Limits.{maxNodes, maxDetect, maxTime, maxStart}
 use Rattle.rules.specs.declared.Copy.{Copy}
 use Rattle.rules.specs.declared.Loss.{Loss}
+use Rattle.rules.specs.Copies.{domain}
 use Rattle.rules.specs.Rules.{Row}
 use Rattle.rules.specs.Replay.{TaskRun, stateNumber, isFinished, attempt, finishOf}
 use Rattle.replay.specs.declared.states.Pair.{Pair}
@@ -28,14 +31,20 @@ pub record PairFits (t : Task) (x : Place) (detect : ℕ) : Type 0 where
 abbrev pub copyAt : Task → ℕ → ℕ → Copy
 copyAt t n s = record { node = n; start = s; finish = s + getD (t .run) n 0 }
 
--- the copies of a task at its place, and whether rule B holds for them
-abbrev pub pairAt : Task → Place → ℕ → Pair
-pairAt t x detect =
+-- the copies of a task at its place, on these nodes, and whether rule B holds for them
+abbrev pub pairAt : Task → Place → Node → Node → Pair
+pairAt t x own other =
     record {
       primary = copyAt t (x .«primary_node») (x .«primary_start»);
       backup = copyAt t (x .«backup_node») (x .«backup_start»);
-      detected = leb (x .«primary_start» + getD (t .run) (x .«primary_node») 0 + detect) (x .«backup_start»);
+      «primary_group» = own .group;
+      «backup_group» = other .group;
+      detected = leb (x .«primary_start» + getD (t .run) (x .«primary_node») 0 + own .detect) (x .«backup_start»);
     }
+
+-- the groups are those of the copies' nodes
+abbrev pub InGroups : Job → Pair → Type 0
+InGroups job x = (domain job (x .primary .node) ≡ x .«primary_group») × (domain job (x .backup .node) ≡ x .«backup_group»)
 
 -- the run of a task of whose copies it is known whether all that they wait for is there, and from when it is
 unfoldable pub runFed : Job → Loss → Bool → Bool → Pair → TaskRun

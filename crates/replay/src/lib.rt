@@ -1,4 +1,4 @@
-// Replay: what becomes of each copy of a plan, with no loss or with one node lost at a moment.
+// Replay: what becomes of each copy of a plan, with no loss or with one group lost at a moment.
 pub mod inputs;
 pub mod progress;
 pub mod states;
@@ -63,8 +63,10 @@ pub fn replay_plan(job: Job, plan: Plan, loss: Loss) -> Outcomes
         let task = job.tasks[j];
         let x = plan.places[j];
         let p = x.primary_node as usize;
-        let w = job.nodes[p];
-        let y = pair_of(task, x, w.detect);
+        let own = job.nodes[p];
+        let b = x.backup_node as usize;
+        let other = job.nodes[b];
+        let y = pair_of(task, x, own, other);
         let o = settle(y, later(r.primary[j], task.ready), r.backup[j], loss);
         r.of[j] = o;
         r.at[j] = sent_at(o);

@@ -1,4 +1,5 @@
 // One task: its two copies, and what they come to.
+use reader::job::Node;
 use reader::job::Task;
 use reader::plan::Place;
 use rules::Copy;
@@ -6,13 +7,16 @@ use rules::Loss;
 ghost use mathlib.Core.Path.{_≡_};
 ghost use Rattle.reader.specs.declared.job.Job.{Job};
 ghost use Rattle.reader.specs.Tests.{_and_};
+ghost use Rattle.rules.specs.Copies.{domain};
 ghost use Rattle.rules.specs.Replay.{stateNumber, attempt};
-ghost use Rattle.replay.specs.States.{PairFits, pairAt, pairRow, runFrom, outcome};
+ghost use Rattle.replay.specs.States.{PairFits, pairAt, InGroups, pairRow, runFrom, outcome};
 
-// The copies of a task, and whether the backup starts late enough for the loss of the primary to be known.
+// The copies of a task, the groups of their nodes, and whether the backup starts late enough for the loss of the primary to be known.
 pub struct Pair {
     pub primary: Copy,
     pub backup: Copy,
+    pub primary_group: u32,
+    pub backup_group: u32,
     pub detected: bool,
 }
 
@@ -24,10 +28,10 @@ pub struct Outcome {
     pub finish: u32,
 }
 
-// The copies of a task at its place; detect is that of the primary's node.
-pub fn pair_of(t: Task, x: Place, detect: u32) -> Pair
-    requires { ⌜ PairFits t x detect ⌝ }
-    ensures { λ r. ⌜ r ≡ pairAt t x detect ⌝ }
+// The copies of a task at its place: `own` is the primary's node, `other` the backup's.
+pub fn pair_of(t: Task, x: Place, own: Node, other: Node) -> Pair
+    requires { ⌜ PairFits t x (own .detect) ⌝ }
+    ensures { λ r. ⌜ r ≡ pairAt t x own other ⌝ }
 {
     let p = x.primary_node as usize;
     let b = x.backup_node as usize;
@@ -43,13 +47,15 @@ pub fn pair_of(t: Task, x: Place, detect: u32) -> Pair
             start: x.backup_start,
             finish: x.backup_start + t.run[b],
         },
-        detected: finish + detect <= x.backup_start,
+        primary_group: own.group,
+        backup_group: other.group,
+        detected: finish + own.detect <= x.backup_start,
     }
 }
 
-// What becomes of a copy that may start, or may not.
-pub fn state_of(loss: Loss, may: bool, c: Copy) -> u32
-    ensures { λ r. ⌜ ((job : Job) → r ≡ stateNumber (attempt job loss may c)) ⌝ }
+// What becomes of a copy, on a node of this group, that may start, or may not.
+pub fn state_of(loss: Loss, may: bool, c: Copy, group: u32) -> u32
+    ensures { λ r. ⌜ ((job : Job) → domain job (c .node) ≡ group → r ≡ stateNumber (attempt job loss may c)) ⌝ }
 {
     if !may {
         return 0;
@@ -57,7 +63,7 @@ pub fn state_of(loss: Loss, may: bool, c: Copy) -> u32
     let Loss::Lost(q, f) = loss else {
         return 2;
     };
-    if c.node != q {
+    if group != q {
         return 2;
     }
     if f <= c.start {
@@ -71,11 +77,11 @@ pub fn state_of(loss: Loss, may: bool, c: Copy) -> u32
 
 // What a task comes to, of whose copies it is known from when all that they wait for is there.
 pub fn settle(x: Pair, ready: u32, ready_backup: u32, loss: Loss) -> Outcome
-    ensures { λ r. ⌜ ((job : Job) → r ≡ outcome (pairRow x) (runFrom job loss ready «ready_backup» x)) ⌝ }
+    ensures { λ r. ⌜ ((job : Job) → InGroups job x → r ≡ outcome (pairRow x) (runFrom job loss ready «ready_backup» x)) ⌝ }
 {
     let p = x.primary;
     let b = x.backup;
-    let a = state_of(loss, ready <= p.start, p);
+    let a = state_of(loss, ready <= p.start, p, x.primary_group);
     if a == 2 {
         return Outcome {
             primary: 2,
@@ -83,7 +89,8 @@ pub fn settle(x: Pair, ready: u32, ready_backup: u32, loss: Loss) -> Outcome
             finish: p.finish,
         };
     }
-    let s = state_of(loss, both(x.detected, ready_backup <= b.start), b);
+    let may = both(x.detected, ready_backup <= b.start);
+    let s = state_of(loss, may, b, x.backup_group);
     if s == 2 {
         return Outcome {
             primary: a,

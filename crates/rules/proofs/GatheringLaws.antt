@@ -1,5 +1,5 @@
 -- Fault sets by receiving task, for every job and plan that read well, passed or not: what is gathered stays, what is not yet gathered is
--- its own primary's node alone, and one step gathers the links that arrive at one task.
+-- its own primary's group alone, and one step gathers the links that arrive at one task.
 use Prim.Native.Nat.{ℕ, zero, suc, _+_, _≤_, _<_}
 use mathlib.Core.Bool.{Bool, true}
 use mathlib.Core.Path.{_≡_, sym, _∙_, ap, subst, fun-ext}
@@ -20,7 +20,7 @@ use Rattle.reader.proofs.FirstLaws.{any-same}
 use Rattle.rules.specs.Copies.{domain}
 use Rattle.rules.specs.Rules.{Row, strong, carries, faultSet, rows}
 use Rattle.rules.specs.Paths.{InFaultSet}
-use Rattle.rules.specs.Gathering.{ownNode, gatheredTo, withSets, gatherTask}
+use Rattle.rules.specs.Gathering.{ownGroup, gatheredTo, withSets, gatherTask}
 use Rattle.rules.proofs.TableLaws.{put-same, put-other}
 use Rattle.rules.proofs.FaultSetLaws.{from-below, rows-faults}
 use Rattle.rules.proofs.FaultPaths.{fault-set-is}
@@ -41,18 +41,18 @@ module _ (job : Job) (plan : Plan) where
   pub gathered-stays : (j m i : ℕ) → i < j → j ≤ m → gatheredTo job plan m i ≡ gatheredTo job plan j i
   gathered-stays j m i p q = gathered-rules m i (omega arith) ∙ sym (gathered-rules j i p)
 
-  -- the set of a later task is its own primary's node alone
-  pub gathered-later : (j i : ℕ) → j ≤ i → gatheredTo job plan j i ≡ ownNode job (rows job plan) i
+  -- the set of a later task is its own primary's group alone
+  pub gathered-later : (j i : ℕ) → j ≤ i → gatheredTo job plan j i ≡ ownGroup job (rows job plan) i
   unfolding gatheredTo
   gathered-later j i p = rw (le-ltb i j p)
 
-  -- in words: 'no later peril yet holds more than its own primary's node'
+  -- in words: 'no later peril yet holds more than its own primary's node', (vi) its group
   pub later-own-only : (j i q : ℕ) → j ≤ i → gatheredTo job plan j i q ≡ true → domain job (rows job plan i .primary .node) ≡ q
-  unfolding ownNode
+  unfolding ownGroup
   later-own-only j i q p h = eqb-true _ _ (sym (ap (λ f. f q) (gathered-later j i p)) ∙ h)
 
   -- the state before any gathering, and after the last
-  pub gathered-none : gatheredTo job plan 0 ≡ ownNode job (rows job plan)
+  pub gathered-none : gatheredTo job plan 0 ≡ ownGroup job (rows job plan)
   gathered-none = fun-ext λ i. gathered-later 0 i (omega arith)
 
   pub gathered-all : (i : ℕ) → i < tasks job → gatheredTo job plan (tasks job) i ≡ rows job plan i .faults
@@ -70,7 +70,7 @@ module _ (job : Job) (plan : Plan) where
     -- what the rules join is what the links carry from the sets gathered so far: their senders are among them
     rules-join : (j : ℕ) → j < tasks job
         → t j .faults ≡ (λ q. state j j q or any (links job) (carries job (withSets t (state j)) j (t j .primary) q))
-    unfolding faultSet carries strong withSets ownNode _and_
+    unfolding faultSet carries strong withSets ownGroup _and_
     rules-join j low =
         rows-faults job sound plan j low
         ∙ fun-ext λ q.
@@ -107,8 +107,8 @@ module _ (job : Job) (plan : Plan) where
     unfolding gatherTask
     gather-else j i low h = rw add-one (ap (λ f. f i) (gather-step j low) ∙ put-other (state j) j _ i h)
 
-    -- whatever begins with the own nodes and takes these steps is in these states
-    pub gathered-by-steps : (s : ℕ → ℕ → ℕ → Bool) → s 0 ≡ ownNode job (rows job plan)
+    -- whatever begins with the own groups and takes these steps is in these states
+    pub gathered-by-steps : (s : ℕ → ℕ → ℕ → Bool) → s 0 ≡ ownGroup job (rows job plan)
         → ((j : ℕ) → j < tasks job → s (suc j) ≡ gatherTask job (rows job plan) (s j) j)
         → (j : ℕ) → j ≤ tasks job → s j ≡ gatheredTo job plan j
     gathered-by-steps s start step zero p = start ∙ sym gathered-none

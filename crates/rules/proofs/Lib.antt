@@ -6,6 +6,7 @@ pub mod FaultSetLaws
 pub mod FaultPaths
 pub mod GatheringLaws
 pub mod JudgeLaws
+pub mod DomainLaws
 pub mod LossLaws
 pub mod FirmSurvives
 pub mod PassedSurvives
@@ -15,6 +16,7 @@ pub mod AnywhereLaws
 pub mod KeepsLaws
 pub mod PlannedPasses
 pub mod PlannerGathers
+pub mod SupplyLaws
 pub mod Ready
 pub mod PlannerRefusals
 pub mod Samples

@@ -98,6 +98,8 @@ module _ (job : Job) (d : Description) (room : Room job d) where
             detect-most = sound .detect-most;
             send-most = sound .send-most;
             send-lacks = sound .send-lacks;
+            group-most = sound .group-most;
+            group-lacks = sound .group-lacks;
             tasks-least = omega arith;
             tasks-most = room .tasks-fit;
             ready-most = λ j p. tasks-sound j p .ready-most;

@@ -25,10 +25,10 @@ module _ (a b : Job) (same : SameNodes a b) where
 
   pub domain-same : (n : ℕ) → domain a n ≡ domain b n
   unfolding domain
-  domain-same n = refl
+  domain-same n = rw (same .list)
 
   pub domains-same : domains a ≡ domains b
-  domains-same = same .count
+  domains-same = refl
 
   pub delay-same : (l : Link) (c d : Copy) → delay a l c d ≡ delay b l c d
   unfolding delay

@@ -36,7 +36,7 @@ kept-firm job t own runs sound k =
       carried = λ m q pm h late. rw (own _ (sound .into m pm)) (faults-over job t _ _ q m pm (eq-eqb (link job m .to) _ refl) late h);
       feeds-primary = k .d;
       feeds-backup = λ m pm. and-l _ _ (k .e m pm);
-      backup-feeds = λ m loss pm of-job h g. imp-e _ _ (and-r _ _ (k .e m pm)) (struck-both job loss _ _ of-job h g);
+      backup-feeds = λ m loss pm of-job h g. imp-e _ _ (and-r _ _ (k .e m pm)) (struck-both job sound loss _ _ of-job h g);
       ready = k .ready;
       detected = k .b;
       primary-runs = λ j p. runs j primary p;
@@ -46,13 +46,13 @@ kept-firm job t own runs sound k =
     }
 
 -- and those that keep G too are clear
-pub kept-clear : (job : Job) (t : ℕ → Row) → Kept job t → Clear job t (λ j. t j .faults)
+pub kept-clear : (job : Job) → Sound job → (t : ℕ → Row) → Kept job t → Clear job t (λ j. t j .faults)
 unfolding ruleA ruleG
-kept-clear job t k =
+kept-clear job sound t k =
     record {
       between = λ i j a b loss p q of-job h g.
           let rule = k .g i j p q in
-          called-apart job _ _ a b loss of-job (and-l _ _ rule) (and-r _ _ rule) h g;
+          called-apart job sound _ _ a b loss of-job (and-l _ _ rule) (and-r _ _ rule) h g;
       alone = λ j p e. clash _ (eq-eqb (domain job (t j .primary .node)) _ (ap (domain job) e)) (not-e _ (k .a j p));
     }
 
@@ -69,13 +69,13 @@ pub passed-firm : (job : Job) (plan : Plan) → Sound job → PlanSound job plan
 passed-firm job plan sound plan-sound passed =
     kept-firm job _ (rows-faults job sound plan) (planned-runs job plan plan-sound) sound (judge-done job plan .0 passed)
 
-pub passed-clear : (job : Job) (plan : Plan) → judge job plan ≡ Done → Clear job (rows job plan) (λ j. rows job plan j .faults)
-passed-clear job plan passed = kept-clear job _ (judge-done job plan .0 passed)
+pub passed-clear : (job : Job) (plan : Plan) → Sound job → judge job plan ≡ Done → Clear job (rows job plan) (λ j. rows job plan j .faults)
+passed-clear job plan sound passed = kept-clear job sound _ (judge-done job plan .0 passed)
 
--- so it survives: with no loss, and with any node of the job lost at any tick
+-- so it survives: with no loss, and with any group of the job lost at any tick
 pub passed-survives : (job : Job) (plan : Plan) → Sound job → PlanSound job plan → judge job plan ≡ Done
     → (loss : Loss) → LossOf job loss → Survives job (rows job plan) loss (replay job plan loss)
 unfolding replay
 passed-survives job plan sound plan-sound passed loss of-job =
     firm-survives job sound (rows job plan) _ 0 (passed-firm job plan sound plan-sound passed) loss of-job (from-start loss)
-    (passed-clear job plan passed)
+    (passed-clear job plan sound passed)

@@ -1,11 +1,13 @@
 -- Copies of tasks: their times, when two of them overlap, and when a result arrives.
-use Prim.Native.Nat.{ℕ, _+_, _≤_, _<_, max, min}
+use Prim.Native.Nat.{ℕ, suc, _+_, _≤_, _<_, max, min}
 use mathlib.Core.Bool.{Bool, cond}
 use lib.Dec.{leb, ltb, eqb}
 use Rattle.reader.specs.declared.job.Job.{Job}
 use Rattle.reader.specs.declared.job.Link.{Link}
 use Rattle.reader.specs.Tests.{_and_}
-use Rattle.reader.specs.Entries.{nodes, send, run}
+use Rattle.reader.specs.First.{any}
+use Rattle.reader.specs.Limits.{maxGroup}
+use Rattle.reader.specs.Entries.{nodes, send, group, run}
 use Rattle.rules.specs.declared.Copy.{Copy}
 
 -- 'A copy of task j on node n takes the listed run time and finishes at start plus run time.'
@@ -28,9 +30,13 @@ delay job l c d = cond (eqb (c .node) (d .node)) 0 (l .delay + send job (c .node
 unfoldable pub inTime : Job → Link → Copy → Copy → Bool
 inTime job l c d = leb (c .finish + delay job l c d) (d .start)
 
--- what one loss takes at once: the failure domain of node n, of so many. Each node is its own
+-- (vi) 'One loss now takes every node of one group': the failure domain of node n, of so many
 unfoldable pub domain : Job → ℕ → ℕ
-domain job n = n
+domain job n = group job n
 
 abbrev pub domains : Job → ℕ
-domains job = nodes job
+domains job = suc maxGroup
+
+-- some node of the job is in domain q
+unfoldable pub hasNode : Job → ℕ → Bool
+hasNode job q = any (nodes job) λ n. eqb (domain job n) q

@@ -11,14 +11,14 @@ use Rattle.rules.specs.Tables.{put}
 use Rattle.rules.specs.Copies.{domain, domains}
 use Rattle.rules.specs.Rules.{Row, carries, rows}
 
--- a task's set before its turn: 'its own primary's node', no other
-unfoldable pub ownNode : Job → (ℕ → Row) → ℕ → ℕ → Bool
-ownNode job t i q = eqb (domain job (t i .primary .node)) q
+-- a task's set before its turn: 'its own primary's node', (vi) that node's group, no other
+unfoldable pub ownGroup : Job → (ℕ → Row) → ℕ → ℕ → Bool
+ownGroup job t i q = eqb (domain job (t i .primary .node)) q
 
 -- the set of each task i once tasks 0 to j - 1 are gathered: 'the perils of tasks 0 to j are those of the rules and change no more, and no
 -- later peril yet holds more than its own primary's node'
 unfoldable pub gatheredTo : Job → Plan → ℕ → ℕ → ℕ → Bool
-gatheredTo job plan j i = let t = rows job plan in cond (ltb i j) (t i .faults) (ownNode job t i)
+gatheredTo job plan j i = let t = rows job plan in cond (ltb i j) (t i .faults) (ownGroup job t i)
 
 -- the rows of a table with these sets
 unfoldable pub withSets : (ℕ → Row) → (ℕ → ℕ → Bool) → ℕ → Row

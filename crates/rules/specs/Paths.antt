@@ -14,6 +14,6 @@ pub data Leads (job : Job) (t : ℕ → Row) (i : ℕ) : ℕ → Type 0 where
       → Leads job t i (link job k .from) → Leads job t i j
 
 -- 'The peril of j is the set of nodes holding j's primary, or the primary of any task from which a path of weak links leads to j':
--- the path of no links leads from j itself
+-- the path of no links leads from j itself. (vi) 'Perils hold groups.'
 abbrev pub InFaultSet : Job → (ℕ → Row) → ℕ → ℕ → Type 0
 InFaultSet job t j q = (i : ℕ) × Leads job t i j × (domain job (t i .primary .node) ≡ q)

@@ -1,4 +1,4 @@
--- Replay of a plan that reads well, passed or not, with no loss or with a node lost at a moment.
+-- Replay of a plan that reads well, passed or not, with no loss or with a group lost at a moment.
 use Prim.Native.Nat.{ℕ}
 use mathlib.Core.Bool.{Bool, true, false, not, cond}
 use lib.Dec.{leb, ltb, eqb}
@@ -30,7 +30,8 @@ isFinished notStarted = false
 isFinished cut = false
 isFinished finished = true
 
--- 'On q a copy also needs a start below f; it is finished if its finish is at most f, else cut.' Elsewhere a started copy finishes
+-- 'On q a copy also needs a start below f; it is finished if its finish is at most f, else cut.' Elsewhere a started copy finishes. (vi) 'Replay
+-- names a group': on q is on any node of group q
 unfoldable pub started : Job → Loss → Copy → State
 started job NoLoss c = finished
 started job (Lost q f) c =

@@ -28,7 +28,8 @@ carries job before j p q k =
     let l = link job k in
     eqb (l .to) j and not (strong job l (before (l .from)) p) and before (l .from) .faults q
 
--- 'The peril of j is the set of nodes holding j's primary, or the primary of any task from which a path of weak links leads to j.'
+-- 'The peril of j is the set of nodes holding j's primary, or the primary of any task from which a path of weak links leads to j.' (vi) 'Perils hold
+-- groups.'
 unfoldable pub faultSet : Job → (ℕ → Row) → ℕ → Copy → ℕ → Bool
 faultSet job before j p q = eqb (domain job (p .node)) q or any (links job) (carries job before j p q)
 
@@ -57,7 +58,7 @@ rows job plan = rowsTo job plan (tasks job)
 unfoldable pub shareFault : Job → Row → Row → Bool
 shareFault job r s = any (domains job) λ q. r .faults q and s .faults q
 
--- 'A. Primary and backup are on different nodes.'
+-- 'A. Primary and backup are on different nodes.' (vi) 'Rule A wants copies in different groups'
 unfoldable pub ruleA : Job → Row → Bool
 ruleA job r = not (eqb (domain job (r .primary .node)) (domain job (r .backup .node)))
 
@@ -78,15 +79,16 @@ unfoldable pub ruleD : Job → Link → Row → Copy → Bool
 ruleD job l r p = inTime job l (r .primary) p
 
 -- 'E. For each link, the finishes of primary i and of backup i, each plus delay, are at most backup j's start.' r is i's row, s is j's
--- (i) 'It keeps its second half, about backup i, only where the perils of i and j share a node.'
+-- (i) 'It keeps its second half, about backup i, only where the perils of i and j share a node.' (vi) 'E and G look for a group common to both perils'
 unfoldable pub ruleE : Job → Link → Row → Row → Bool
 ruleE job l r s = inTime job l (r .primary) (s .backup) and (shareFault job r s implies inTime job l (r .backup) (s .backup))
 
--- 'F. Backup j's node is not in j's peril.'
+-- 'F. Backup j's node is not in j's peril.' (vi) 'F wants backup j's group outside j's peril'
 unfoldable pub ruleF : Job → Row → Bool
 ruleF job r = not (r .faults (domain job (r .backup .node)))
 
--- 'G. On one node copies do not overlap, except two backups whose perils have no common node.'
+-- 'G. On one node copies do not overlap, except two backups whose perils have no common node.' (vi) 'Overlap itself is still judged on each single
+-- node.'
 -- Between the copies of row r and the primary p of another task
 unfoldable pub ruleGPrimary : Row → Copy → Bool
 ruleGPrimary r p = not (overlap (r .primary) p) and not (overlap (r .backup) p)

@@ -1,5 +1,5 @@
--- The starred samples of document 01, as one table of questions and answers; sample 8 as request (i) has it. Those of requests (ii) and
--- (iv) behind them.
+-- The starred samples of document 01, as one table of questions and answers; sample 8 as request (i) has it. Those of requests (ii), (iv)
+-- and (vi) behind them.
 use Prim.Native.Nat.{ℕ}
 use mathlib.Core.Bool.{Bool, true, false}
 use mathlib.Core.List.{List, [], _∷_}
@@ -12,7 +12,8 @@ use Rattle.reader.specs.Limits.{maxNodes, maxTasks, maxLinks}
 use Rattle.reader.specs.Entries.{noNode, noLink, blankTask, link}
 use Rattle.reader.specs.declared.refusal.Told.{Told}
 use Rattle.reader.specs.Refusals.{told, tell}
-use Rattle.reader.specs.Samples.{array, linkOf, at, J, JReady, JSending, JWithoutLink, JWithDelay, JWithDeadline, _beside_, plan1}
+use Rattle.reader.specs.Samples.{array, linkOf, at, J, JReady, JSending, JGrouped, JGroupedWithoutLink, JWithoutLink, JWithDelay, JWithDeadline, _beside_}
+use Rattle.reader.specs.Samples.{nodeOf, rackIn, planWith, plan1}
 use Rattle.rules.specs.declared.Loss.{Loss}
 use Rattle.rules.specs.declared.Loss.the-variants.{NoLoss, Lost}
 use Rattle.rules.specs.Rules.{rows, strong}
@@ -126,7 +127,7 @@ slowCard =
     record {
       version = 3;
       «node_count» = 2;
-      nodes = array maxNodes noNode (record { detect = 0; send = 2 } ∷ record { detect = 0; send = 0 } ∷ []);
+      nodes = array maxNodes noNode (record { detect = 0; send = 2; group = 0 } ∷ record { detect = 0; send = 0; group = 1 } ∷ []);
       «task_count» = 2;
       tasks = array maxTasks blankTask (quick (1 ∷ 1 ∷ []) ∷ quick (3 ∷ 1 ∷ []) ∷ []);
       «link_count» = 1;
@@ -153,6 +154,50 @@ sendTable =
     ∷ sample 18 (replays (JSending 4 0 0) plan1 (Lost 0 5)) (ran (wrote 2 0 4) (wrote 1 0 0))
     ∷ sample 19 (plans slowCard) (planned (at 0 0 1 1 beside at 0 1 1 4))
     ∷ sample 19 (judges slowCard (at 0 0 1 1 beside at 1 2 0 3)) (declined (told 11 0 1))
+    ∷ []
+
+-- both primaries in one drawer, where nodes 0 and 1 are; and a backup beside the primary that a weak link leads from
+abbrev pub drawerPlan : Plan
+drawerPlan = at 0 0 2 5 beside at 1 6 2 10
+
+abbrev pub besidePlan : Plan
+besidePlan = at 0 0 2 9 beside at 2 6 1 15
+
+-- tasks 0 and 1 feed task 2 on five nodes, of which node 0 is in group 7 and node 4 in group q; task 2's backup at this tick. By a weak link group 7
+-- is in its fault set, and its backup has the result of backup 0 at 23 and that of backup 1 at 24
+abbrev onFive : ℕ → Task
+onFive run = record { ready = 0; deadline = 30; run = array maxNodes 0 (run ∷ run ∷ run ∷ run ∷ run ∷ []) }
+
+abbrev pub fedByTwo : ℕ → Job
+fedByTwo q =
+    rackIn 4 (nodeOf 0 7 ∷ nodeOf 0 1 ∷ nodeOf 0 2 ∷ nodeOf 0 3 ∷ nodeOf 0 q ∷ [])
+    (onFive 4 ∷ onFive 4 ∷ onFive 1 ∷ []) (linkOf 0 2 14 ∷ linkOf 1 2 10 ∷ [])
+
+abbrev pub fedPlan : ℕ → Plan
+fedPlan tick = planWith (at 0 0 1 5 ∷ at 4 4 2 10 ∷ at 2 18 3 tick ∷ [])
+
+-- (vi), with nodes 0 and 1 in group 5 and node 2 in group 9, and beside it with each node in a group of its own: A and F by groups, in 22 'a group
+-- common to both perils' for G, overlap on single nodes, a delay between nodes of one group, a loss that takes both of them, and in 25 a common
+-- group for E. In 20 nothing can be planned on one supply
+abbrev pub groupTable : List Sample
+groupTable =
+    sample 20 (plans (JGrouped 3 3 3)) (declined (told 16 0 0))
+    ∷ sample 20 (plans (JGrouped 5 5 9)) (planned (at 0 0 2 5 beside at 0 4 2 9))
+    ∷ sample 20 (plans (JGrouped 7 1 3)) (planned plan1)
+    ∷ sample 21 (judges (JGrouped 0 1 2) plan1) passed
+    ∷ sample 21 (judges (JGrouped 5 5 9) plan1) (declined (told 8 0 0))
+    ∷ sample 21 (judges (JGrouped 0 1 2) besidePlan) passed
+    ∷ sample 21 (judges (JGrouped 5 5 9) besidePlan) (declined (told 13 1 1))
+    ∷ sample 22 (judges (JGroupedWithoutLink 0 1 2) (at 0 0 2 5 beside at 1 0 2 4)) passed
+    ∷ sample 22 (judges (JGroupedWithoutLink 5 5 9) (at 0 0 2 5 beside at 1 0 2 4)) (declined (told 14 0 1))
+    ∷ sample 22 (judges (JGroupedWithoutLink 5 5 9) (at 0 0 2 5 beside at 1 0 2 9)) passed
+    ∷ sample 23 (judges (JGrouped 5 5 9) drawerPlan) passed
+    ∷ sample 23 (judges (JGrouped 5 5 9) (at 0 0 2 5 beside at 1 5 2 10)) (declined (told 11 0 1))
+    ∷ sample 24 (replays (JGrouped 0 1 2) drawerPlan (Lost 0 5)) (ran (wrote 2 0 4) (wrote 2 0 9))
+    ∷ sample 24 (replays (JGrouped 5 5 9) drawerPlan (Lost 5 5)) (ran (wrote 2 0 4) (wrote 0 2 13))
+    ∷ sample 25 (judges (fedByTwo 4) (fedPlan 23)) passed
+    ∷ sample 25 (judges (fedByTwo 7) (fedPlan 23)) (declined (told 12 1 2))
+    ∷ sample 25 (judges (fedByTwo 7) (fedPlan 24)) passed
     ∷ []
 
 abbrev pub asked : List Sample → List Outcome

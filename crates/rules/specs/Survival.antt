@@ -7,14 +7,15 @@ use Rattle.reader.specs.Entries.{tasks, links, deadline, link}
 use Rattle.rules.specs.declared.Copy.{Copy}
 use Rattle.rules.specs.declared.Loss.{Loss}
 use Rattle.rules.specs.declared.Loss.the-variants.{NoLoss, Lost}
-use Rattle.rules.specs.Copies.{domains}
+use Rattle.rules.specs.Copies.{hasNode}
 use Rattle.rules.specs.Rules.{Row}
 use Rattle.rules.specs.Replay.{State, notStarted, cut, finished, isFinished, TaskRun, arrived, finishOf}
 
--- 'with no loss, or with any node q of the job lost at any tick f from 0 on'
+-- 'with no loss, or with any node q of the job lost at any tick f from 0 on', (vi) and 'what was true of any one lost node is now wanted for any
+-- one lost group': q is a group of the job
 abbrev pub LossOf : Job → Loss → Type 0
 LossOf job NoLoss = Unit {0}
-LossOf job (Lost q f) = q < domains job
+LossOf job (Lost q f) = hasNode job q ≡ true
 
 -- a loss at moment t or later
 abbrev pub LossFrom : ℕ → Loss → Type 0

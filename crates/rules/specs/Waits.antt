@@ -37,7 +37,7 @@ waitsByPrimaries job l r s =
     neverWaits job l r s
     and (eqb (domain job (r .primary .node)) (domain job (s .primary .node)) implies inTime job l (r .backup) (s .backup))
 
--- asked by the faults that tasks before i hand on to it: its own primary's node is left out
+-- asked by the faults that tasks before i hand on to it: its own primary's group is left out
 unfoldable pub waitsByEarlier : Job → Link → Row → Row → Bool
 waitsByEarlier job l r s =
     let common : ℕ → Bool = λ q. r .faults q and s .faults q and not (eqb (domain job (r .primary .node)) q) in

@@ -1,13 +1,13 @@
--- The starred samples of document 01, and those of requests (ii), (iv) and (v), at the level of bytes, by computation.
+-- The starred samples of document 01, and those of requests (ii), (iv), (v) and (vi), at the level of bytes, by computation.
 use mathlib.Core.Path.{_≡_, refl}
 use mathlib.Core.List.{[], _∷_, _++_}
 use lib.ListN.{replicate}
 use Rattle.reader.specs.Refusals.{told, packed, result}
-use Rattle.reader.specs.Samples.{J, plan1}
+use Rattle.reader.specs.Samples.{J, JGrouped, plan1}
 use Rattle.writer.specs.Write.{pack, jobBytes, planBytes}
 use Rattle.writer.proofs.Samples.{filed}
 use Rattle.rules.specs.declared.Loss.the-variants.{Lost}
-use Rattle.rules.specs.Samples.{table, readyTable, sendTable}
+use Rattle.rules.specs.Samples.{table, readyTable, sendTable, groupTable, drawerPlan}
 use Rattle.rules.specs.Gathering.{setNumber, faultNumber}
 use Rattle.rules.specs.WrongTurns.{chain, chainPlan}
 use Rattle.rules.proofs.Samples.{computed}
@@ -34,6 +34,17 @@ ready-file-samples = refl
 pub send-file-samples : calls sendTable ≡ dues sendTable
 unfolding calculated
 send-file-samples = refl
+
+pub group-file-samples : calls groupTable ≡ dues groupTable
+unfolding calculated
+group-file-samples = refl
+
+-- (vi) 'Refusal 18 is given if the named group has no node': with groups 5, 5 and 9 for 0, a node's number, and not for 5, above all of them
+pub lost-groups :
+    (result (replayFiles (jobBytes (JGrouped 5 5 9)) (planBytes drawerPlan) (Lost 0 0) (replicate 24 165) .answer) ≡ packed (told 18 0 0))
+    × (result (replayFiles (jobBytes (JGrouped 5 5 9)) (planBytes drawerPlan) (Lost 5 0) (replicate 24 165) .answer) ≡ 0)
+unfolding calculated
+lost-groups = (refl, refl)
 
 -- 18 before 17: with node 3 of J's three lost and no room at all, the node is named
 pub node-before-room : result (replayFiles (jobBytes J) (planBytes plan1) (Lost 3 0) [] .answer) ≡ packed (told 18 3 0)

@@ -1,22 +1,27 @@
 -- Demand 3 at the level of bytes: where judge and replay answer 0, every task survives as replay's bytes show.
 use Prim.Native.Nat.{ℕ, _*_, _≤_}
-use mathlib.Core.Path.{_≡_, refl}
+use mathlib.Core.Path.{_≡_, refl, sym, _∙_, ap}
 use mathlib.Core.List.{List}
-use mathlib.Core.Option.{none}
+use mathlib.Core.Bool.{false}
+use mathlib.Core.Logic.{_↔_}
+use mathlib.Core.Option.{none, some}
 use lib.ListN.{length}
-use borrow.Author.Tests.{lt-ltb, ltb-true, le-leb}
+use borrow.Author.Tests.{le-leb}
 use Rattle.reader.specs.declared.job.Job.{Job}
 use Rattle.reader.specs.declared.plan.Plan.{Plan}
+use Rattle.reader.specs.declared.refusal.Refusal.the-variants.{NoSuchNode}
+use Rattle.reader.specs.First.{isNone, unless}
 use Rattle.reader.specs.Entries.{tasks}
 use Rattle.reader.specs.Refusals.{answered, result}
 use Rattle.reader.specs.JobFile.{jobAt}
+use Rattle.reader.proofs.TestLaws.{clash, not-true}
 use Rattle.reader.proofs.FirstLaws.{or-else-l, or-else-r, or-else-i, unless-none, none-unless}
 use Rattle.reader.proofs.RefusalLaws.{answered-done}
 use Rattle.reader.proofs.PackingLaws.{result-done}
 use Rattle.writer.specs.Write.{roomFault}
 use Rattle.rules.specs.declared.Loss.{Loss}
 use Rattle.rules.specs.declared.Loss.the-variants.{NoLoss, Lost}
-use Rattle.rules.specs.Copies.{domains}
+use Rattle.rules.specs.Copies.{hasNode}
 use Rattle.rules.specs.Rules.{rows}
 use Rattle.rules.specs.Judge.{judge}
 use Rattle.rules.specs.Replay.{replay}
@@ -29,16 +34,24 @@ use Rattle.seqopchi.specs.Files.{planIn, filesFault, judgeFiles, lossFau
 use Rattle.seqopchi.specs.Demand.{FilesSurvive}
 use Rattle.seqopchi.proofs.ReadLaws.{files-sound}
 
+-- 18 exactly if the named group has no node
+pub no-such-group : (job : Job) (q f : ℕ) → (lossFault job (Lost q f) ≡ some (NoSuchNode q)) ↔ (hasNode job q ≡ false)
+unfolding lossFault unless
+no-such-group job q f = (
+  λ h. not-true _ λ there. clash false (ap isNone (sym h ∙ none-unless _ _ there)) refl,
+  λ h. rw h,
+)
+
 -- a loss is no refusal 18 exactly if it is one of the job
 loss-fine : (job : Job) (loss : Loss) → LossOf job loss → lossFault job loss ≡ none
 unfolding lossFault
 loss-fine job NoLoss h = refl
-loss-fine job (Lost q f) h = none-unless _ _ (lt-ltb q (domains job) h)
+loss-fine job (Lost q f) h = none-unless _ _ h
 
 fine-loss : (job : Job) (loss : Loss) → lossFault job loss ≡ none → LossOf job loss
 unfolding lossFault
 fine-loss job NoLoss h = tt
-fine-loss job (Lost q f) h = ltb-true q (domains job) (unless-none _ _ h)
+fine-loss job (Lost q f) h = unless-none _ _ h
 
 module _ (file plan : List ℕ) (loss : Loss) (out : List ℕ) where
   abbrev job : Job

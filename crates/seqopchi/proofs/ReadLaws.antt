@@ -2,10 +2,13 @@
 use Prim.Native.Nat.{ℕ, _*_, _≤_, _<_}
 use mathlib.Core.Path.{_≡_, sym, ap, ap₂, _∙_, subst}
 use mathlib.Core.List.{List, _++_}
+use mathlib.Core.Bool.{Bool, true, false}
 use mathlib.Core.Option.{Option, none, some}
-use lib.ListN.{length, drop}
-use borrow.Author.Tests.{lt-leb, le-leb, lt-ltb, le-ltb}
+use lib.Dec.{eqb}
+use lib.ListN.{length, drop, getD}
+use borrow.Author.Tests.{lt-leb, le-leb}
 use Rattle.reader.specs.declared.job.Job.{Job}
+use Rattle.reader.specs.declared.job.Node.{Node}
 use Rattle.reader.specs.declared.job_file.JobRead.{JobRead}
 use Rattle.reader.specs.declared.plan.Plan.{Plan}
 use Rattle.reader.specs.declared.plan_file.PlanRead.{PlanRead}
@@ -13,8 +16,8 @@ use Rattle.reader.specs.declared.refusal.Refusal.{Refusal}
 use Rattle.reader.specs.declared.refusal.Refusal.the-variants.{ShortBuffer, NoSuchNode}
 use Rattle.reader.specs.declared.refusal.Answer.{Answer}
 use Rattle.reader.specs.declared.refusal.Answer.the-variants.{Done, Refused}
-use Rattle.reader.specs.First.{_or-else_, unless}
-use Rattle.reader.specs.Entries.{nodes, tasks}
+use Rattle.reader.specs.First.{_or-else_, unless, any}
+use Rattle.reader.specs.Entries.{nodes, tasks, noNode}
 use Rattle.reader.specs.Sound.{Sound, PlanSound}
 use Rattle.reader.specs.Refusals.{answered, result}
 use Rattle.reader.specs.JobFile.{jobFault, jobAt, readJob, JobDone}
@@ -26,6 +29,7 @@ use Rattle.reader.proofs.Promise.{none-value, job-sound as sound-job, plan-soun
 use Rattle.writer.specs.Write.{roomFault, Written, writes}
 use Rattle.rules.specs.declared.Loss.{Loss}
 use Rattle.rules.specs.declared.Loss.the-variants.{NoLoss, Lost}
+use Rattle.rules.specs.Copies.{domain, hasNode}
 use Rattle.rules.specs.Judge.{judge}
 use Rattle.replay.specs.Outcomes.{replayBytes}
 use Rattle.replay.proofs.WriteLaws.{length-replay}
@@ -41,15 +45,20 @@ pub given : {w : Written} {a : Answer} {b : List ℕ} {n : ℕ} → w ≡ record
     → (n ≡ result (w .answer)) × (b ≡ w .buffer)
 given e q = (q ∙ sym (ap (λ w. result (w .answer)) e), sym (ap (λ w. w .buffer) e))
 
--- whether the lost node is one of the job's
-module _ (job : Job) (loss : Loss) (q f n : ℕ) (told : loss ≡ Lost q f) (is : nodes job ≡ n) where
-  pub node-there : q < n → Done ≡ answered (lossFault job loss)
-  unfolding lossFault unless
-  node-there h = rw (told, is, lt-ltb q n h)
+-- whether the lost group has a node, b says
+module _ (job : Job) (loss : Loss) (q f : ℕ) (told : loss ≡ Lost q f)
+    (list : List Node) (n : ℕ) (are : job .nodes ≡ list) (is : nodes job ≡ n) (b : Bool) (e : b ≡ any n (λ i. eqb (getD list i noNode .group) q)) where
+  there : b ≡ hasNode job q
+  unfolding hasNode domain
+  there = e ∙ ap₂ (λ l m. any m (λ i. eqb (getD l i noNode .group) q)) (sym are) (sym is)
 
-  pub node-missing : n ≤ q → Refused (NoSuchNode q) ≡ answered (lossFault job loss)
+  pub group-there : b ≡ true → Done ≡ answered (lossFault job loss)
   unfolding lossFault unless
-  node-missing h = rw (told, is, le-ltb q n h)
+  group-there h = rw (told, sym there ∙ h)
+
+  pub group-missing : b ≡ false → Refused (NoSuchNode q) ≡ answered (lossFault job loss)
+  unfolding lossFault unless
+  group-missing h = rw (told, sym there ∙ h)
 
 pub nothing-lost : (job : Job) (loss : Loss) → loss ≡ NoLoss → Done ≡ answered (lossFault job loss)
 unfolding lossFault

@@ -44,7 +44,7 @@ module _ (file plan out : List ℕ) (done : result (setsFiles file plan out .ans
   number-there j p =
       let s = faultBytes job places in
       let no-fault = answered-done (setsFault file plan out) .0 (result-done _ done) in
-      let fits = fault-number-fits job places (sound-files .0) j in
+      let fits = fault-number-fits job places j in
       ap (λ o. numberAt (writes o s out .buffer) (4 * j)) no-fault
       ∙ number-front s _ (4 * j) (omega (arith, length-faults job places))
       ∙ ap (λ at. numberAt s at) (let e : 4 * j ≡ 4 * (1 * j + 0) = omega arith in e)

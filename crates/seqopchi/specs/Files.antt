@@ -2,7 +2,6 @@
 use Prim.Native.Nat.{ℕ, _*_}
 use mathlib.Core.List.{List, [], _∷_}
 use mathlib.Core.Option.{Option, none, some}
-use lib.Dec.{ltb}
 use Rattle.reader.specs.declared.job.Job.{Job}
 use Rattle.reader.specs.declared.plan.Plan.{Plan}
 use Rattle.reader.specs.declared.refusal.Refusal.{Refusal}
@@ -14,7 +13,7 @@ use Rattle.reader.specs.PlanFile.{planLength, planFault, planAt}
 use Rattle.writer.specs.Write.{pack, flat, planBytes, roomFault, Written, writes}
 use Rattle.rules.specs.declared.Loss.{Loss}
 use Rattle.rules.specs.declared.Loss.the-variants.{NoLoss, Lost}
-use Rattle.rules.specs.Copies.{domains}
+use Rattle.rules.specs.Copies.{hasNode}
 use Rattle.rules.specs.Rules.{rows}
 use Rattle.rules.specs.Gathering.{faultNumber}
 use Rattle.rules.specs.Judge.{breach}
@@ -53,10 +52,10 @@ planFileFault job out =
 unfoldable pub planFile : List ℕ → List ℕ → Written
 planFile job out = writes (planFileFault job out) (planBytes (planOr (planner (jobAt job)))) out
 
--- 18, 'lost node not below P'
+-- 18, (vi) 'if the named group has no node'
 unfoldable pub lossFault : Job → Loss → Option Refusal
 lossFault job NoLoss = none
-lossFault job (Lost q f) = unless (ltb q (domains job)) (NoSuchNode q)
+lossFault job (Lost q f) = unless (hasNode job q) (NoSuchNode q)
 
 -- 'Replay reads job, plan, then 18, then 17 (12 × N bytes).'
 unfoldable pub replayFault : List ℕ → List ℕ → Loss → List ℕ → Option Refusal
@@ -65,7 +64,7 @@ replayFault job plan loss out = filesFault job plan or-else lossFault (jobAt job
 unfoldable pub replayFiles : List ℕ → List ℕ → Loss → List ℕ → Written
 replayFiles job plan loss out = writes (replayFault job plan loss out) (replayBytes (jobAt job) (planIn job plan) loss) out
 
--- (v) the fault sets of a plan, passed or not: 4 bytes a task, bit q for node q
+-- (v) the fault sets of a plan, passed or not: 4 bytes a task, bit q for group q
 unfoldable pub faultBytes : Job → Plan → List ℕ
 faultBytes job plan = pack (flat (tasks job) (λ j. faultNumber job plan j ∷ []))
 

@@ -3,6 +3,8 @@ use copies::table::Copies;
 use judge::judge_plan;
 use judge::sets::plan_sets;
 use planner::plan_job;
+use reader::job::Job;
+use reader::job::Node;
 use reader::job_file::read_job;
 use reader::plan_file::read_plan;
 use reader::refusal::Answer;
@@ -16,8 +18,10 @@ ghost use mathlib.Core.List.{[], _∷_};
 ghost use mathlib.Core.Path.{_≡_};
 ghost use lib.ListN.{length, getD};
 ghost use Rattle.reader.specs.declared.job.Job.{Job};
-ghost use Rattle.reader.specs.Entries.{nodes as nodesOf};
-ghost use Rattle.reader.specs.Limits.{maxTasks};
+ghost use lib.Dec.{eqb};
+ghost use Rattle.reader.specs.First.{any};
+ghost use Rattle.reader.specs.Entries.{nodes as nodesOf, noNode};
+ghost use Rattle.reader.specs.Limits.{maxNodes, maxTasks};
 ghost use Rattle.reader.specs.Refusals.{answered, result};
 ghost use Rattle.writer.specs.Puts.{Rows};
 ghost use Rattle.rules.specs.declared.Loss.the-variants.{NoLoss, Lost};
@@ -64,14 +68,31 @@ fn plan_file(job: &[u8], out: &mut [u8]) -> Answer
     Answer::Done
 }
 
-// Whether the lost node, if any, is one of so many.
-fn lost_node(loss: Loss, nodes: u32) -> Answer
-    ensures { λ r. ⌜ ((job : Job) → nodesOf job ≡ nodes → r ≡ answered (lossFault job loss)) ⌝ }
+// Whether one of the first n nodes is in group q.
+fn has_node(nodes: [Node; Job::MAX_NODES], n: usize, q: u32) -> bool
+    requires { ⌜ n ≤ maxNodes ⌝ }
+    ensures { λ r. ⌜ r ≡ any n (λ i. eqb (getD nodes i noNode .group) q) ⌝ }
+{
+    let mut i: usize = 0;
+    while i < n {
+        let node = nodes[i];
+        if node.group == q {
+            return true;
+        }
+        i += 1;
+    }
+    false
+}
+
+// Whether the lost group, if any, is that of one of the first n nodes.
+fn lost_group(loss: Loss, nodes: [Node; Job::MAX_NODES], n: usize) -> Answer
+    requires { ⌜ n ≤ maxNodes ⌝ }
+    ensures { λ r. ⌜ ((job : Job) → job .nodes ≡ nodes → nodesOf job ≡ n → r ≡ answered (lossFault job loss)) ⌝ }
 {
     let Loss::Lost(q, _) = loss else {
         return Answer::Done;
     };
-    if q < nodes {
+    if has_node(nodes, n, q) {
         return Answer::Done;
     }
     Answer::Refused(Refusal::NoSuchNode(q))
@@ -91,7 +112,8 @@ fn replay_files(job: &[u8], plan: &[u8], loss: Loss, out: &mut [u8]) -> Answer
     let Answer::Done = bad_plan else {
         return bad_plan;
     };
-    let no_node = lost_node(loss, value.node_count);
+    let nodes = value.nodes;
+    let no_node = lost_group(loss, nodes, value.node_count as usize);
     let Answer::Done = no_node else {
         return no_node;
     };
@@ -166,22 +188,22 @@ pub extern "C" fn seqopchi_replay(job: &[u8], plan: &[u8], out: &mut [u8]) -> u6
     replay_files(job, plan, Loss::NoLoss, out).result()
 }
 
-// The same, with a node lost at a moment.
+// The same, with a group lost at a moment: every node of it.
 #[no_mangle]
 pub extern "C" fn seqopchi_replay_loss(
     job: &[u8],
     plan: &[u8],
-    node: u32,
+    group: u32,
     moment: u32,
     out: &mut [u8],
 ) -> u64
-    ensures { λ r. ⌜ (r ≡ result (replayFiles (now (job .entry)) (now (plan .entry)) (Lost node moment) (now (out .entry)) .answer))
-        × (now (out .exit) ≡ replayFiles (now (job .entry)) (now (plan .entry)) (Lost node moment) (now (out .entry)) .buffer) ⌝ }
+    ensures { λ r. ⌜ (r ≡ result (replayFiles (now (job .entry)) (now (plan .entry)) (Lost group moment) (now (out .entry)) .answer))
+        × (now (out .exit) ≡ replayFiles (now (job .entry)) (now (plan .entry)) (Lost group moment) (now (out .entry)) .buffer) ⌝ }
 {
-    replay_files(job, plan, Loss::Lost(node, moment), out).result()
+    replay_files(job, plan, Loss::Lost(group, moment), out).result()
 }
 
-// The fault sets of two files, passed or not: a number for each task, bit q for node q.
+// The fault sets of two files, passed or not: a number for each task, bit q for group q.
 #[no_mangle]
 pub extern "C" fn seqopchi_fault_sets(job: &[u8], plan: &[u8], out: &mut [u8]) -> u64
     ensures { λ r. ⌜ (r ≡ result (setsFiles (now (job .entry)) (now (plan .entry)) (now (out .entry)) .answer))

@@ -12,7 +12,7 @@ use Rattle.reader.specs.Sound.{Sound}
 use Rattle.reader.specs.Number.{numberAt}
 use Rattle.reader.specs.JobFile.{jobVersion, nodeWidth, taskWidth, taskSection, linkSection, jobLength, nodeCount, taskCount, linkCount}
 use Rattle.reader.specs.JobFile.{nodeAt, runAt, taskAt, linkAt, jobAt}
-use Rattle.reader.specs.Fields.{nodeFields, taskFields, width, fieldsAt}
+use Rattle.reader.specs.Fields.{nodeFields, taskFields, width, fieldsAt, held}
 use Rattle.reader.specs.PlanFile.{placeAt, planAt, planLength}
 use Rattle.writer.specs.Write.{flat, nodeNumbers, taskNumbers, linkNumbers, placeNumbers, numbersOf, jobNumbers, planNumbers}
 use Rattle.reader.proofs.Accepted.{GoodJob, GoodPlan}
@@ -22,9 +22,9 @@ use Rattle.writer.proofs.Segments.{Stands, stands-one, stands-two, stan
 use Rattle.writer.proofs.HeldLaws.{fields-stand}
 
 -- the numbers of one entry, from the offset where it stands
-node-stands : (v : ℕ) (s : List ℕ) (at : ℕ) → Stands s at (nodeNumbers v (nodeAt v s at)) (at + nodeWidth v)
-unfolding nodeNumbers nodeAt nodeWidth nodeFields fieldsAt
-node-stands v s at = fields-stand v nodeFields s at
+node-stands : (v : ℕ) (s : List ℕ) (i at : ℕ) → Stands s at (nodeNumbers v (nodeAt v s i at)) (at + nodeWidth v)
+unfolding nodeNumbers nodeAt nodeWidth nodeFields width held fieldsAt
+node-stands v s i at = fields-stand v (nodeFields i) s at
 
 task-stands : (v : ℕ) (s : List ℕ) (at p : ℕ) → p ≤ maxNodes → Stands s at (taskNumbers v p (taskAt v s at p)) (at + taskWidth v p)
 unfolding taskNumbers taskAt taskWidth taskFields fieldsAt
@@ -66,7 +66,7 @@ module _ (s : List ℕ) (g : GoodJob s) where
   nodes-stand : Stands s 8 (flat p (λ i. nodeNumbers v (node (jobAt s) i))) (taskSection v p)
   nodes-stand =
       stands-flat s (λ i. 8 + i * nodeWidth v) (nodeWidth v) (λ i. nodeNumbers v (node (jobAt s) i)) p 8 (omega arith) (λ i. omega arith)
-      (λ i l. rw (node-at s i (g .nodes .count .most) l) (node-stands v s _))
+      (λ i l. rw (node-at s i (g .nodes .count .most) l) (node-stands v s i _))
 
   tasks-stand : Stands s (taskSection v p + 4) (flat n (λ j. taskNumbers v p (task (jobAt s) j))) (linkSection v p n)
   tasks-stand =

@@ -1,20 +1,21 @@
--- 'the longest job has 10,576 bytes', 10,832 in version 2 and 10,896 in version 3: no file that is accepted has more (reader, `job-longest`), and one has
--- as many.
+-- 'the longest job has 10,576 bytes', 10,832 in version 2, 10,896 in version 3 and 10,960 in version 4: no file that is accepted has more (reader,
+-- `job-longest`), and one has as many.
 use Prim.Native.Nat.{ℕ, zero, suc, _+_, _/_, _%_, _≤_, _<_}
 use native.Mathlib.Omega.{arith}
-use mathlib.Core.Path.{_≡_, refl, sym}
+use mathlib.Core.Path.{_≡_, refl, sym, ap}
 use mathlib.Core.Bool.{true}
 use mathlib.Core.List.{List, [], _∷_}
 use mathlib.Core.Option.{none}
 use lib.Dec.{ltb}
 use lib.ListN.{length, replicate, getD-replicate}
 use borrow.Author.Tests.{ltb-false, lt-ltb, eq-eqb}
+use Rattle.reader.specs.declared.job.Node.{Node}
 use Rattle.reader.specs.declared.job.Task.{Task}
 use Rattle.reader.specs.declared.job.Link.{Link}
 use Rattle.reader.specs.declared.job.Job.{Job}
 use Rattle.reader.specs.First.{fill}
 use Rattle.reader.specs.Limits.{firstVersion, newestVersion, maxNodes, maxTasks, maxLinks}
-use Rattle.reader.specs.Entries.{noNode, noTask, noLink, task, link}
+use Rattle.reader.specs.Entries.{noNode, noTask, noLink, node, task, link}
 use Rattle.reader.specs.Sound.{below, Sound}
 use Rattle.reader.specs.Number.{Bytes}
 use Rattle.reader.specs.JobFile.{jobVersion, longestJob, jobFault}
@@ -32,7 +33,10 @@ pack-bytes (v ∷ vs) (suc (suc zero)) = omega arith
 pack-bytes (v ∷ vs) (suc (suc (suc zero))) = omega arith
 pack-bytes (v ∷ vs) (suc (suc (suc (suc k)))) = pack-bytes vs k
 
--- 16 nodes, 64 tasks and 512 links: 16 from each of the first 32 tasks
+-- 16 nodes, each its own group, 64 tasks and 512 links: 16 from each of the first 32 tasks
+abbrev longNode : ℕ → Node
+longNode n = record { detect = 0; send = 0; group = n }
+
 abbrev longTask : Task
 longTask = record { ready = 0; deadline = 1; run = replicate maxNodes 0 }
 
@@ -43,12 +47,16 @@ unfoldable longJob : ℕ → Job
 longJob v = record {
   version = v;
   «node_count» = maxNodes;
-  nodes = replicate maxNodes noNode;
+  nodes = fill maxNodes longNode (replicate maxNodes noNode);
   «task_count» = maxTasks;
   tasks = replicate maxTasks longTask;
   «link_count» = maxLinks;
   links = fill maxLinks longLink (replicate maxLinks noLink);
 }
+
+node-is : (v n : ℕ) → n < maxNodes → node (longJob v) n ≡ longNode n
+unfolding longJob
+node-is v n p = filled-at longNode maxNodes noNode _ maxNodes n noNode refl p (omega arith)
 
 task-is : (v j : ℕ) → j < maxTasks → task (longJob v) j ≡ longTask
 unfolding longJob
@@ -72,9 +80,11 @@ long-sound v least most = record {
   version-most = most;
   nodes-least = omega arith;
   nodes-most = omega arith;
-  detect-most = λ n p. rw (getD-replicate maxNodes n noNode noNode p) (omega arith);
-  send-most = λ n p. rw (getD-replicate maxNodes n noNode noNode p) (omega arith);
-  send-lacks = λ n p _. rw (getD-replicate maxNodes n noNode noNode p);
+  detect-most = λ n p. omega (arith, ap (λ x. x .detect) (node-is v n p));
+  send-most = λ n p. omega (arith, ap (λ x. x .send) (node-is v n p));
+  send-lacks = λ n p _. ap (λ x. x .send) (node-is v n p);
+  group-most = λ n p. omega (arith, ap (λ x. x .group) (node-is v n p));
+  group-lacks = λ n p _. ap (λ x. x .group) (node-is v n p);
   tasks-least = omega arith;
   tasks-most = omega arith;
   ready-most = λ j p. rw (task-is v j p) (omega arith);

@@ -6,8 +6,8 @@ use mathlib.Core.Bool.{true}
 use lib.ListN.{getD}
 use borrow.Author.Tests.{le-leb}
 use Rattle.reader.specs.declared.job.Job.{Job}
-use Rattle.reader.specs.Limits.{readySince, sendSince}
-use Rattle.reader.specs.Entries.{nodes, tasks, detect, send, ready, deadline, run, node, task}
+use Rattle.reader.specs.Limits.{readySince, sendSince, groupSince}
+use Rattle.reader.specs.Entries.{nodes, tasks, detect, send, group, ready, deadline, run, node, task}
 use Rattle.reader.specs.Fields.{nodeFields, taskFields, nodeValues, taskValues, reaches, heldIf, held}
 use Rattle.reader.specs.Sound.{Sound}
 use Rattle.reader.proofs.VersionLaws.{AllWithin}
@@ -27,6 +27,11 @@ module _ (a b : Job) (e : SameJob a b) where
   unfolding nodeNumbers nodeFields reaches held
   same-send n p h = if-same _ _ _ _ _ (if-same true _ _ _ _ (e .same-node n p) .1) .0 (le-leb sendSince (a .version) h)
 
+  pub same-group : (n : ℕ) → n < nodes a → groupSince ≤ a .version → group a n ≡ group b n
+  unfolding nodeNumbers nodeFields reaches held
+  same-group n p h =
+      if-same _ _ _ _ _ (if-same _ _ _ _ _ (if-same true _ _ _ _ (e .same-node n p) .1) .1) .0 (le-leb groupSince (a .version) h)
+
   parts : (j : ℕ) → j < tasks a → SameTask (a .version) (nodes a) (task a j) (task b j)
   parts j p = task-parts _ _ _ _ (e .same-task j p)
 
@@ -44,10 +49,10 @@ module _ (a b : Job) (e : SameJob a b) where
 
   module _ (ha : Sound a) (hb : Sound b) where
     pub all-of-node : (n : ℕ) → n < nodes a → nodeValues (node a n) ≡ nodeValues (node b n)
-    unfolding nodeNumbers
+    unfolding nodeNumbers nodeFields held
     all-of-node n p =
-        held-same (a .version) nodeFields _ _ (node-of a ha n p)
-        (subst (λ v. AllWithin v nodeFields (nodeValues (node b n))) (sym (e .version)) (node-of b hb n (omega (arith, e .node-count))))
+        held-same (a .version) (nodeFields n) _ _ (node-of a ha n p)
+        (subst (λ v. AllWithin v (nodeFields n) (nodeValues (node b n))) (sym (e .version)) (node-of b hb n (omega (arith, e .node-count))))
         (e .same-node n p)
 
     pub all-of-task : (j : ℕ) → j < tasks a → taskValues (task a j) ≡ taskValues (task b j)

@@ -71,7 +71,7 @@ ones (suc n) f = simp length-append (omega (arith, ones n f))
 
 pub node-width : (v : ℕ) (x : Node) → 4 * length (nodeNumbers v x) ≡ nodeWidth v
 unfolding nodeNumbers nodeWidth nodeFields
-node-width v x = held-width v nodeFields (nodeValues x) refl
+node-width v x = held-width v (nodeFields 0) (nodeValues x) refl
 
 pub fields-width : (v : ℕ) (x : Task) → 4 * length (held v taskFields (taskValues x)) ≡ width v taskFields
 unfolding taskFields

@@ -1,4 +1,4 @@
--- Samples of document 01, and of requests (ii) and (iv), that files alone decide, computed from the definitions.
+-- Samples of document 01, and of requests (ii), (iv) and (vi), that files alone decide, computed from the definitions.
 use mathlib.Core.Path.{_≡_, refl}
 use mathlib.Core.Option.{none}
 use lib.Dec.{lit≤}
@@ -13,7 +13,7 @@ use Rattle.reader.specs.PlanFile
 use Rattle.reader.specs.Samples.{J}
 use Rattle.writer.specs.Write
 use Rattle.writer.specs.Write.{jobBytes}
-use Rattle.writer.specs.Samples.{Sample11, JStray, Versions, SendFiles}
+use Rattle.writer.specs.Samples.{Sample11, JStray, Versions, SendFiles, GroupFiles}
 use Rattle.writer.proofs.SameNumbers.{job-same}
 
 -- all that reading and writing files computes with
@@ -56,3 +56,7 @@ versions =
 pub send-files : SendFiles
 unfolding filed
 send-files = record { own-version = refl; stray-bytes = refl; stray-read = refl; older-reader = refl; send-above = refl }
+
+pub group-files : GroupFiles
+unfolding filed
+group-files = record { own-version = refl; stray-bytes = refl; stray-read = refl; older-reader = refl; group-above = refl }

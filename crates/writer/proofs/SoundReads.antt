@@ -36,11 +36,14 @@ use Rattle.writer.proofs.WordLaws.{job-words, plan-words}
 use Rattle.reader.proofs.Faultless.{good-job, good-plan}
 
 -- the entries of a sound job
-pub node-of : (job : Job) → Sound job → (i : ℕ) → i < nodes job → AllWithin (job .version) nodeFields (nodeValues (node job i))
+pub node-of : (job : Job) → Sound job → (i : ℕ) → i < nodes job → AllWithin (job .version) (nodeFields i) (nodeValues (node job i))
 unfolding AllWithin nodeFields
 node-of job h i p = (
   within-i _ _ _ (omega arith) (h .detect-most i p) (λ l. absurd (let z : ⊥ = omega arith in z)),
-  (within-i _ _ _ (omega arith) (h .send-most i p) (h .send-lacks i p), refl),
+  (
+    within-i _ _ _ (omega arith) (h .send-most i p) (h .send-lacks i p),
+    (within-i _ _ _ (omega arith) (h .group-most i p) (h .group-lacks i p), refl),
+  ),
 )
 
 pub task-of : (job : Job) → Sound job → (j : ℕ) → j < tasks job → SoundTask (job .version) (nodes job) (task job j)
@@ -69,10 +72,10 @@ module _ (s : List ℕ) where
       → Good s at low high
   head-in v vs at b low high h l m r = omega (arith, stands-at s (v ∷ vs) at b h 0 at (omega arith) (omega arith))
 
-  node-in : (v at : ℕ) (x : Node) → Stands s at (nodeNumbers v x) (at + nodeWidth v) → at + nodeWidth v ≤ length s
-      → AllWithin v nodeFields (nodeValues x) → GoodFields v s at nodeFields
-  unfolding nodeNumbers
-  node-in v at x h m g = held-good v nodeFields (nodeValues x) s at _ g h m
+  node-in : (v i at : ℕ) (x : Node) → Stands s at (nodeNumbers v x) (at + nodeWidth v) → at + nodeWidth v ≤ length s
+      → AllWithin v (nodeFields i) (nodeValues x) → GoodFields v s at (nodeFields i)
+  unfolding nodeNumbers nodeFields held
+  node-in v i at x h m g = held-good v (nodeFields i) (nodeValues x) s at _ g h m
 
   task-in : (v at p : ℕ) (x : Task) → Stands s at (taskNumbers v p x) (at + taskWidth v p) → at + taskWidth v p ≤ length s
       → SoundTask v p x → GoodTask v s at p
@@ -190,8 +193,8 @@ module _ (s : List ℕ) (job : Job) (h : Sound job) (d : HoldsJob s job) where
     count = omega (arith, d .node-count, h .nodes-least, h .nodes-most, d .end);
     entry = λ i q.
         let l : i < p = omega (arith, d .node-count) in
-        subst (λ x. GoodFields v s (8 + x) nodeFields) (mul-comm (nodeWidth v) i)
-        (node-in s v _ (node job i) (d .node-stands i l) (nodes-within i l) (node-of job h i l));
+        subst (λ x. GoodFields v s (8 + x) (nodeFields i)) (mul-comm (nodeWidth v) i)
+        (node-in s v i _ (node job i) (d .node-stands i l) (nodes-within i l) (node-of job h i l));
     room = subst (λ p. taskSection v p ≤ length s) (d .node-count) (omega (arith, d .end));
   }
 

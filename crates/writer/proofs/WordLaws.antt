@@ -45,7 +45,8 @@ place-words p run x m g =
 module _ (job : Job) (h : Sound job) where
   node-words : (v i : ℕ) → i < nodes job → Words (nodeNumbers v (node job i))
   unfolding nodeNumbers
-  node-words v i p = held-words v _ _ (words-more _ _ (omega (arith, h .detect-most i p)) (words-one _ (omega (arith, h .send-most i p))))
+  node-words v i p = held-words v _ _ (words-more _ _ (omega (arith, h .detect-most i p)) (words-more _ _ (omega (arith, h .send-most i p))
+      (words-one _ (omega (arith, h .group-most i p)))))
 
   task-words : (v p j : ℕ) → p ≤ nodes job → j < tasks job → Words (taskNumbers v p (task job j))
   unfolding taskNumbers

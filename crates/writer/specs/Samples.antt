@@ -1,4 +1,4 @@
--- Samples of document 01, and of requests (ii) and (iv), that reading and writing decide.
+-- Samples of document 01, and of requests (ii), (iv) and (vi), that reading and writing decide.
 use Prim.Native.Nat.{ℕ}
 use mathlib.Core.Path.{_≡_}
 use mathlib.Core.List.{List, [], _∷_, _++_}
@@ -8,7 +8,7 @@ use Rattle.reader.specs.declared.refusal.Answer.the-variants.{Done, Refused}
 use Rattle.reader.specs.declared.refusal.Told.{Told}
 use Rattle.reader.specs.Refusals.{told, tell}
 use Rattle.reader.specs.declared.job.Job.{Job}
-use Rattle.reader.specs.Samples.{readyTask, jobIn, J, JIn, JReady, JSendingIn, JSending}
+use Rattle.reader.specs.Samples.{readyTask, jobIn, J, JIn, JReady, JSendingIn, JSending, JGroupedIn, JGrouped}
 use Rattle.reader.specs.JobFile.{readJob, readJobUpTo}
 use Rattle.writer.specs.Write.{pack, jobBytes}
 use Rattle.writer.specs.Equality.{SameJob}
@@ -42,7 +42,7 @@ pub record Versions : Type 0 where
   pub stray-same : SameJob JStray J
   pub stray-read : readJob (jobBytes JStray) .job ≡ J
   pub none : shown (readJob (jobBytes (JIn 0 0 0)) .answer) ≡ told 2 0 0
-  pub later : shown (readJob (jobBytes (JIn 4 0 0)) .answer) ≡ told 2 0 0
+  pub later : shown (readJob (jobBytes (JIn 5 0 0)) .answer) ≡ told 2 0 0
   pub older-reader : shown (readJobUpTo 1 (jobBytes (JReady 0 0)) .answer) ≡ told 2 0 0
   pub ready-most : shown (readJob (jobBytes (JReady 0 1_000_000)) .answer) ≡ told 0 0 0
   pub ready-above : shown (readJob (jobBytes (JReady 0 1_000_001)) .answer) ≡ told 4 44 0
@@ -56,3 +56,12 @@ pub record SendFiles : Type 0 where
   pub stray-read : readJob (jobBytes (JSendingIn 1 5 7 9)) .job ≡ J
   pub older-reader : shown (readJobUpTo 2 (jobBytes (JSending 0 0 0)) .answer) ≡ told 2 0 0
   pub send-above : shown (readJob (jobBytes (JSending 0 0 1_001)) .answer) ≡ told 4 28 0
+
+-- (vi): 'Job version 4 gives each node, after its send time, a supply group (0 to 15); in older versions each node is its own group'; in version 4 the
+-- group of node 2 of J stands at 40
+pub record GroupFiles : Type 0 where
+  pub own-version : readJob (jobBytes (JGrouped 5 15 5)) .job ≡ JGrouped 5 15 5
+  pub stray-bytes : jobBytes (JGroupedIn 3 5 5 9) ≡ jobBytes (JSending 0 0 0)
+  pub stray-read : readJob (jobBytes (JGroupedIn 1 5 5 9)) .job ≡ J
+  pub older-reader : shown (readJobUpTo 3 (jobBytes (JGrouped 0 1 2)) .answer) ≡ told 2 0 0
+  pub group-above : shown (readJob (jobBytes (JGrouped 0 0 16)) .answer) ≡ told 4 40 0

@@ -37,9 +37,9 @@ unfoldable pub flat : ℕ → (ℕ → List ℕ) → List ℕ
 flat zero f = []
 flat (suc n) f = flat n f ++ f n
 
--- the numbers of a file's entries, in version v and for p nodes
+-- the numbers of a file's entries, in version v and for p nodes; which fields a node's entry has does not go by its number
 unfoldable pub nodeNumbers : ℕ → Node → List ℕ
-nodeNumbers v x = held v nodeFields (nodeValues x)
+nodeNumbers v x = held v (nodeFields 0) (nodeValues x)
 
 unfoldable pub taskNumbers : ℕ → ℕ → Task → List ℕ
 taskNumbers v p x = held v taskFields (taskValues x) ++ flat p (λ i. getD (x .run) i 0 ∷ [])

@@ -62,13 +62,14 @@ fn put_if(d: &mut [u8], at: usize, has: bool, v: u32) -> usize
     at
 }
 
-// A node: its detect time, in every version, and its send time where the version has it.
+// A node: its detect time, in every version, and its send time and its group where the version has them.
 fn put_node(d: &mut [u8], at: usize, version: usize, node: Node) -> usize
     requires { ⌜ at + nodeWidth version ≤ length (now d) ⌝ }
     ensures { λ r. ⌜ Puts (now (d .entry)) at (nodeNumbers version node) (now (d .exit)) r ⌝ }
 {
     let then = put(d, at, node.detect);
-    put_if(d, then, Job::SEND_SINCE <= version, node.send)
+    let last = put_if(d, then, Job::SEND_SINCE <= version, node.send);
+    put_if(d, last, Job::GROUP_SINCE <= version, node.group)
 }
 
 // The first nodes, from an offset.

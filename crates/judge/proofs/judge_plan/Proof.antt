@@ -2,7 +2,7 @@
 use mathlib.Core.Logic.{inl, inr, ⊎-elim}
 use mathlib.Core.Path.{refl}
 use Rattle.judge.proofs.TaskLaws.{placeable}
-use Rattle.judge.proofs.PlanLaws.{timed, low, pass-ready, tasks-refused, links-refused, backups-refused, faults-answered}
+use Rattle.judge.proofs.PlanLaws.{timed, low, grouped, pass-ready, tasks-refused, links-refused, backups-refused, faults-answered}
 use borrow.Author.Needs.{needs}
 use Rattle.judge.proofs.judge_plan.Statement.{statement}
 use Rattle.judge.proofs.judge_plan.Tie as tie
@@ -61,7 +61,8 @@ judge-faults-requires c κs =
     let up1 = c .before .before .before .before .before .before .before .before .before .before .before .before .before .before in
     let at-place-copies = up1 .before .before .before .before .before .before in
     let at-pre = at-place-copies .before .before .before .before .before .before .before .before .before in
-    low _ _ (at-pre .pre .0) (at-pre .pre .1) _ _ _ (at-place-copies .place-copies .ensures (at-pre .args .job))
+    let placed = at-place-copies .place-copies .ensures (at-pre .args .job) in
+    (low _ _ (at-pre .pre .0) (at-pre .pre .1) _ _ _ placed, grouped _ _ (at-pre .pre .0) (at-pre .pre .1) _ _ _ placed)
 
 returns-4 : tie.Need-returns-4
 returns-4 c =

@@ -1,10 +1,11 @@
 -- `replay::replay_plan` meets its contract.
-use Prim.Native.Nat.{_+_, _-_}
+use Prim.Native.Nat.{_+_, _-_, _<_}
 use mathlib.Core.Logic.{⊎-elim}
 use native.Mathlib.Omega.{arith}
+use Rattle.reader.specs.Limits.{maxTasks}
 use Rattle.reader.specs.Entries.{tasks, links}
 use Rattle.replay.proofs.RunLaws.{Upto, upto-start, upto-sent, upto-settled, upto-done, task-fits, to-fits, node-below, sent-fits}
-use Rattle.replay.proofs.PairLaws.{fits}
+use Rattle.replay.proofs.PairLaws.{pair-groups, fits}
 use borrow.Author.Needs.{needs}
 use Rattle.replay.proofs.replay_plan.Statement.{statement}
 use Rattle.replay.proofs.replay_plan.Tie as tie
@@ -73,56 +74,57 @@ loop-again c =
     upto-sent _ _ _ (at-pre .pre) _ _ _ (at-if1 .before .before .loop .inv) (at-if1 .if1 .taken) (at-if2 .if2 .taken) _ _ _ _
     (at-later .before .arrival .ensures) (at-later .later .ensures) (c .before .arrival2 .ensures) (c .later2 .ensures)
 
-element-copy-out-w : tie.Need-element-copy-out-w Inv-loop μ-loop
-element-copy-out-w c =
+-- where both nodes of task j are known: the turn, and what is known of the task
+abbrev turn : tie.After-other Inv-loop μ-loop → tie.In-loop Inv-loop μ-loop
+turn c = c .before .before .before .before .before .before .before
+
+task-below : (c : tie.After-other Inv-loop μ-loop) → turn c .before .loop .j < maxTasks
+task-below c = task-fits _ (turn c .before .before .before .pre .0) _ (turn c .loop-test .taken)
+
+element-copy-out-own : tie.Need-element-copy-out-own Inv-loop μ-loop
+element-copy-out-own c =
     let at-loop-test = c .before .before .before .before in
-    let at-pre = at-loop-test .before .before .before in
-    fits _ _ (at-pre .pre) _ (at-loop-test .loop-test .taken) .primary-node
+    fits _ _ (at-loop-test .before .before .before .pre) _ (at-loop-test .loop-test .taken) .primary-node
+
+element-copy-out-other : tie.Need-element-copy-out-other Inv-loop μ-loop
+element-copy-out-other c =
+    let at-loop-test = c .before .before .before .before .before .before in
+    fits _ _ (at-loop-test .before .before .before .pre) _ (at-loop-test .loop-test .taken) .backup-node
 
 pair-of-requires : tie.Need-pair-of-requires Inv-loop μ-loop
-pair-of-requires c κs =
-    let at-loop-test = c .before .before .before .before .before in
-    let at-pre = at-loop-test .before .before .before in
-    fits _ _ (at-pre .pre) _ (at-loop-test .loop-test .taken)
+pair-of-requires c κs = fits _ _ (turn c .before .before .before .pre) _ (turn c .loop-test .taken)
+
+mul-o : tie.Need-mul-o Inv-loop μ-loop
+mul-o c = omega (arith, task-below (c .before .before .before .before .before))
+
+element-set-from-o : tie.Need-element-set-from-o Inv-loop μ-loop
+element-set-from-o c = task-below (c .before .before .before .before .before)
 
 mul-r-3 : tie.Need-mul-r-3 Inv-loop μ-loop
-mul-r-3 c =
-    let at-loop-test = c .before .before .before .before .before .before .before .before .before .before .before in
-    let at-pre = at-loop-test .before .before .before in
-    let p = task-fits _ (at-pre .pre .0) _ (at-loop-test .loop-test .taken) in search needs
+mul-r-3 c = let p = task-below (c .before .before .before .before .before .before) in search needs
 
 element-write-r-3 : tie.Need-element-write-r-3 Inv-loop μ-loop
-element-write-r-3 c =
-    let at-loop-test = c .before .before .before .before .before .before .before .before .before .before .before in
-    let at-pre = at-loop-test .before .before .before in
-    task-fits _ (at-pre .pre .0) _ (at-loop-test .loop-test .taken)
+element-write-r-3 c = task-below (c .before .before .before .before .before .before)
 
 mul-r-4 : tie.Need-mul-r-4 Inv-loop μ-loop
-mul-r-4 c =
-    let at-loop-test = c .before .before .before .before .before .before .before .before .before .before .before .before in
-    let at-pre = at-loop-test .before .before .before in
-    let p = task-fits _ (at-pre .pre .0) _ (at-loop-test .loop-test .taken) in search needs
+mul-r-4 c = let p = task-below (c .before .before .before .before .before .before .before) in search needs
 
 element-write-r-4 : tie.Need-element-write-r-4 Inv-loop μ-loop
-element-write-r-4 c =
-    let at-loop-test = c .before .before .before .before .before .before .before .before .before .before .before .before in
-    let at-pre = at-loop-test .before .before .before in
-    task-fits _ (at-pre .pre .0) _ (at-loop-test .loop-test .taken)
+element-write-r-4 c = task-below (c .before .before .before .before .before .before .before)
 
 add-j : tie.Need-add-j Inv-loop μ-loop
-add-j c =
-    let at-loop-test = c .before .before .before .before .before .before .before .before .before .before .before .before in
-    let at-pre = at-loop-test .before .before .before in
-    let p = task-fits _ (at-pre .pre .0) _ (at-loop-test .loop-test .taken) in search needs
+add-j c = let p = task-below (c .before .before .before .before .before .before .before) in search needs
 
 loop-again-2 : tie.Need-loop-again-2 Inv-loop μ-loop
 loop-again-2 c =
     let at-later = c .before .before .before .before in
-    let at-if1 = at-later .before .before .before .before .before .before .before in
-    let at-pre = at-if1 .before .before .before .before in
-    upto-settled _ _ _ (at-pre .pre) _ _ _ (at-if1 .before .before .loop .inv) (at-if1 .before .loop-test .taken)
-    (⊎-elim (λ w k. omega arith) (λ w k. omega arith) (at-if1 .if1 .came)) _ _ _ _ _ (at-later .before .before .pair-of .ensures)
-    (at-later .later3 .ensures) (c .before .before .settle .ensures _) (c .before .sent-at .ensures) (c .sent-from .ensures)
+    let at-pair-of = at-later .before .before in
+    let at-if1 = at-pair-of .before .before .before .before .before .before .before in
+    let pre = at-if1 .before .before .before .before .pre in
+    let pair = at-pair-of .pair-of .ensures in
+    upto-settled _ _ _ pre _ _ _ (at-if1 .before .before .loop .inv) (at-if1 .before .loop-test .taken)
+    (⊎-elim (λ w k. omega arith) (λ w k. omega arith) (at-if1 .if1 .came)) _ _ _ _ _ pair (at-later .later3 .ensures)
+    (c .before .before .settle .ensures _ (pair-groups _ _ pre _ _ pair)) (c .before .sent-at .ensures) (c .sent-from .ensures)
 
 returns : tie.Need-returns Inv-loop μ-loop
 returns c =
@@ -139,6 +141,6 @@ replay-plan-spec =
     (λ c κs. search needs) (λ c. search needs) element-write-r (λ c. search needs) element-write-r (λ c κs. search needs)
     (λ c κs. search needs) (λ c. search needs) element-write-r-2 (λ c. search needs) (λ c. search needs) loop-again (λ c. search needs)
     (λ c. search needs) (λ c. search needs) (λ c. search needs) (λ c. search needs) (λ c. search needs)
-    element-copy-out-w pair-of-requires (λ c. search needs) (λ c. search needs) (λ c κs. search needs) (λ c. search needs)
-    (λ c. search needs) (λ c κs. search needs) (λ c. search needs) (λ c. search needs) (λ c κs. search needs) mul-r-3 element-write-r-3
-    (λ c κs. search needs) mul-r-4 element-write-r-4 add-j (λ c. search needs) loop-again-2 returns)
+    element-copy-out-own (λ c. search needs) (λ c. search needs) element-copy-out-other pair-of-requires (λ c. search needs) (λ c. search needs)
+    (λ c κs. search needs) (λ c. search needs) (λ c. search needs) (λ c κs. search needs) mul-o element-set-from-o
+    (λ c κs. search needs) mul-r-3 element-write-r-3 (λ c κs. search needs) mul-r-4 element-write-r-4 add-j (λ c. search needs) loop-again-2 returns)

@@ -1,6 +1,6 @@
--- Replay's call: a refusal of a file, of the lost node or of the buffer, or what replay writes.
+-- Replay's call: a refusal of a file, of the lost group or of the buffer, or what replay writes.
 use mathlib.Core.Path.{refl}
-use Rattle.seqopchi.proofs.ReadLaws.{job-sound, job-stops, plan-stops, files-done, both-sound, replay-stops, no-node, no-room, replayed}
+use Rattle.seqopchi.proofs.ReadLaws.{job-sound, job-stops, plan-stops, FilesDone, files-done, both-sound, replay-stops, no-node, no-room, replayed}
 use borrow.Author.Needs.{needs}
 use Rattle.seqopchi.proofs.replay_files.Statement.{statement}
 use Rattle.seqopchi.proofs.replay_files.Tie as tie
@@ -18,46 +18,44 @@ returns-2 c =
     (c .before .before .read-plan .ensures) (c .enum-told4 .given .1) in
     replay-stops _ _ _ bad (c .enum-told4 .given .1) _ _
 
+-- both files, from where the plan is read
+read-both : (c : tie.After-enum-told3)
+    → let at-job = c .before .before .before .before .before .before in let files = at-job .before .before .before .before in
+    FilesDone (files .args .job .now) (files .args .plan .now) (at-job .read-job .result .job) (c .before .before .read-plan .result .plan)
+read-both c =
+    let at-told = c .before .before .before .before in
+    files-done _ _ (at-told .before .before .read-job .ensures) (at-told .enum-told .given .1) _ _ (c .before .before .read-plan .ensures)
+    (c .enum-told3 .given .1)
+
+lost-group-requires : tie.Need-lost-group-requires
+lost-group-requires c κs = both-sound _ _ _ _ (read-both (c .before .before)) .0 .nodes-most
+
 returns-3 : tie.Need-returns-3
 returns-3 c =
-    let at-told3 = c .before .before .before in
-    let at-told = at-told3 .before .before .before .before in
-    let done = files-done _ _ (at-told .before .before .read-job .ensures) (at-told .enum-told .given .1) _ _
-    (at-told3 .before .before .read-plan .ensures) (at-told3 .enum-told3 .given .1) in
-    no-node _ _ _ _ done _ _ _ (c .before .before .lost-node .ensures _ refl) (c .enum-told6 .given .1)
+    let at-lost = c .before .before in
+    no-node _ _ _ _ (read-both (at-lost .before .before .before)) _ _ _ (at-lost .lost-group .ensures _ refl refl) (c .enum-told6 .given .1)
 
 returns-4 : tie.Need-returns-4
 returns-4 c =
     let at-lost = c .before .before .before .before in
-    let at-plan = at-lost .before .before .before in
-    let at-job = at-plan .before .before .before .before in
-    let done = files-done _ _ (at-job .read-job .ensures) (at-plan .before .before .enum-told .given .1) _ _
-    (at-plan .read-plan .ensures) (at-lost .before .enum-told3 .given .1) in
-    no-room _ _ _ _ done _ _ _ (at-lost .lost-node .ensures _ refl) (c .before .before .enum-told5 .given .1) (c .if1 .taken)
+    no-room _ _ _ _ (read-both (at-lost .before .before .before)) _ _ _ (at-lost .lost-group .ensures _ refl refl)
+    (c .before .before .enum-told5 .given .1) (c .if1 .taken)
 
 replay-into-requires : tie.Need-replay-into-requires
 replay-into-requires c κs =
-    let at-told3 = c .before .before .before .before .before .before .before in
-    let at-told = at-told3 .before .before .before .before in
-    let done = files-done _ _ (at-told .before .before .read-job .ensures) (at-told .enum-told .given .1) _ _
-    (at-told3 .before .before .read-plan .ensures) (at-told3 .enum-told3 .given .1) in
-    let both = both-sound _ _ _ _ done in
+    let both = both-sound _ _ _ _ (read-both (c .before .before .before .before .before .before .before .before .before)) in
     (both .0, both .1, c .before .before .if1 .left)
 
 returns-5 : tie.Need-returns-5
 returns-5 c =
     let at-if1 = c .before .before .before .before .before in
     let at-lost = at-if1 .before .before .before .before in
-    let at-plan = at-lost .before .before .before in
-    let at-job = at-plan .before .before .before .before in
-    let done = files-done _ _ (at-job .read-job .ensures) (at-plan .before .before .enum-told .given .1) _ _
-    (at-plan .read-plan .ensures) (at-lost .before .enum-told3 .given .1) in
-    replayed _ _ _ _ done _ _ _ (at-lost .lost-node .ensures _ refl) (at-if1 .before .before .enum-told5 .given .1) (at-if1 .if1 .left) _
-    (c .before .before .replay-into .ensures)
+    replayed _ _ _ _ (read-both (at-lost .before .before .before)) _ _ _ (at-lost .lost-group .ensures _ refl refl)
+    (at-if1 .before .before .enum-told5 .given .1) (at-if1 .if1 .left) _ (c .before .before .replay-into .ensures)
 
 pub replay-files-spec : {M : Type 1} → statement M
 replay-files-spec =
     tie.close
     (tie.spec (λ c κs. search needs) (λ c. search needs) (λ c. search needs) returns read-plan-requires (λ c. search needs)
-    (λ c. search needs) returns-2 (λ c κs. search needs) (λ c. search needs) (λ c. search needs) returns-3 (λ c. search needs)
+    (λ c. search needs) returns-2 (λ c. search needs) lost-group-requires (λ c. search needs) (λ c. search needs) returns-3 (λ c. search needs)
     (λ c. search needs) returns-4 replay-into-requires (λ c. search needs) returns-5)

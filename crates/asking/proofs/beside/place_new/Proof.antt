@@ -8,6 +8,7 @@ use Rattle.rules.specs.Longer.{longerJob}
 use Rattle.copies.specs.Table.{table}
 use Rattle.copies.proofs.ListMore.{replicated}
 use Rattle.planner.proofs.SenderLaws.{sent-start}
+use Rattle.planner.proofs.PeerLaws.{job-groups, peers-start}
 use Rattle.asking.specs.Beside.{StoredTo}
 use Rattle.asking.proofs.BesideLaws.{book-start, merged-sendable, old-few, old-takeable, old-bookable, old-departing, old-more}
 use Rattle.asking.proofs.BesideLaws.{new-few, new-wanted, new-told}
@@ -55,9 +56,18 @@ cast-at c =
           (c .loop-test .taken),
     )
 
+array-copy-out-own : tie.Need-array-copy-out-own Inv-loop μ-loop
+array-copy-out-own c =
+    let at-loop-test = c .before .before .before in
+    let at-by-receiver = at-loop-test .before .before .before .before .before in
+    let at-merged-links = at-by-receiver .before .before .before .before .before in
+    let at-pre = at-merged-links .before .before .before .before .before in
+    old-takeable _ _ _ (at-pre .pre) _ (at-merged-links .merged-links .ensures) _ _ _ _ (at-by-receiver .by-receiver .ensures) _
+    (at-loop-test .loop-test .taken) _ _ _ _ (at-loop-test .before .loop .inv .0) .primary .on
+
 pair-at-requires : tie.Need-pair-at-requires Inv-loop μ-loop
 pair-at-requires c κs =
-    let at-loop-test = c .before .before .before .before .before .before .before .before .before in
+    let at-loop-test = c .before .before .before .before .before .before .before .before .before .before .before in
     let at-by-receiver = at-loop-test .before .before .before .before .before in
     let at-merged-links = at-by-receiver .before .before .before .before .before in
     let at-pre = at-merged-links .before .before .before .before .before in
@@ -67,7 +77,7 @@ pair-at-requires c κs =
 book-requires : tie.Need-book-requires Inv-loop μ-loop
 book-requires c κs =
     let at-pair-at = c .before .before .before .before in
-    let at-loop-test = at-pair-at .before .before .before .before .before .before .before .before .before .before in
+    let at-loop-test = at-pair-at .before .before .before .before .before .before .before .before .before .before .before .before in
     let at-by-receiver = at-loop-test .before .before .before .before .before in
     let at-merged-links = at-by-receiver .before .before .before .before .before in
     let at-pre = at-merged-links .before .before .before .before .before in
@@ -77,7 +87,7 @@ book-requires c κs =
 send-off-requires : tie.Need-send-off-requires Inv-loop μ-loop
 send-off-requires c κs =
     let at-pair-at = c .before .before .before .before .before .before in
-    let at-loop-test = at-pair-at .before .before .before .before .before .before .before .before .before .before in
+    let at-loop-test = at-pair-at .before .before .before .before .before .before .before .before .before .before .before .before in
     let at-by-receiver = at-loop-test .before .before .before .before .before in
     let at-merged-links = at-by-receiver .before .before .before .before .before in
     let at-pre = at-merged-links .before .before .before .before .before in
@@ -87,7 +97,7 @@ send-off-requires c κs =
 chain-up-requires : tie.Need-chain-up-requires Inv-loop μ-loop
 chain-up-requires c κs =
     let at-pair-at = c .before .before .before .before .before .before .before .before .before in
-    let at-loop-test = at-pair-at .before .before .before .before .before .before .before .before .before .before in
+    let at-loop-test = at-pair-at .before .before .before .before .before .before .before .before .before .before .before .before in
     let at-by-receiver = at-loop-test .before .before .before .before .before in
     let at-merged-links = at-by-receiver .before .before .before .before .before in
     let at-pre = at-merged-links .before .before .before .before .before in
@@ -97,14 +107,14 @@ chain-up-requires c κs =
 add-j : tie.Need-add-j Inv-loop μ-loop
 add-j c =
     let at-pair-at = c .before .before .before .before .before .before .before .before .before .before in
-    let at-loop-test = at-pair-at .before .before .before .before .before .before .before .before .before .before in
+    let at-loop-test = at-pair-at .before .before .before .before .before .before .before .before .before .before .before .before in
     let at-pre = at-loop-test .before .before .before .before .before .before .before .before .before .before .before .before .before .before .before in
     omega (arith, at-loop-test .loop-test .taken, at-pre .pre .sound .tasks-most)
 
 loop-less : tie.Need-loop-less Inv-loop μ-loop
 loop-less c =
     let at-pair-at = c .before .before .before .before .before .before .before .before .before .before in
-    let at-loop-test = at-pair-at .before .before .before .before .before .before .before .before .before .before in
+    let at-loop-test = at-pair-at .before .before .before .before .before .before .before .before .before .before .before .before in
     omega (arith, at-loop-test .loop-test .taken)
 
 loop-again : tie.Need-loop-again Inv-loop μ-loop
@@ -112,7 +122,7 @@ loop-again c =
     let at-send-off = c .before .before .before in
     let at-book = at-send-off .before .before in
     let at-pair-at = at-book .before .before .before .before .before in
-    let at-loop-test = at-pair-at .before .before .before .before .before .before .before .before .before .before in
+    let at-loop-test = at-pair-at .before .before .before .before .before .before .before .before .before .before .before .before in
     let at-by-receiver = at-loop-test .before .before .before .before .before in
     let at-merged-links = at-by-receiver .before .before .before .before .before in
     let at-pre = at-merged-links .before .before .before .before .before in
@@ -120,37 +130,52 @@ loop-again c =
     (at-loop-test .loop-test .taken) _ _ _ _ (at-loop-test .before .loop .inv .0) _ (at-pair-at .pair-at .ensures) in
     (more _ (at-book .book .ensures) _ _ _ (at-send-off .send-off .ensures) (c .chain-up .ensures), omega (arith, at-loop-test .loop-test .taken))
 
+by-group-requires : tie.Need-by-group-requires Inv-loop μ-loop
+by-group-requires c κs =
+    let at-by-receiver = c .before .before .before .before .before .before .before in
+    let at-pre = at-by-receiver .before .before .before .before .before .before .before .before .before .before in
+    (job-groups _ (at-pre .pre .sound), peers-start _ _ refl)
+
 cast-of : tie.Need-cast-of Inv-loop μ-loop
 cast-of c =
-    let at-by-receiver = c .before .before .before .before .before .before in
+    let at-by-receiver = c .before .before .before .before .before .before .before .before in
     let at-merged-links = at-by-receiver .before .before .before .before .before in
     let at-pre = at-merged-links .before .before .before .before .before in
     omega (arith, new-few _ _ _ (at-pre .pre) _ (at-merged-links .merged-links .ensures) _ _ _ _ (at-by-receiver .by-receiver .ensures))
 
+-- where the new task is wanted: the nodes by group, and the table of the plan
+abbrev grouped : tie.After-of Inv-loop μ-loop → tie.After-by-group Inv-loop μ-loop
+grouped c = c .before
+
+abbrev table-of : tie.After-of Inv-loop μ-loop → tie.After-loop Inv-loop μ-loop
+table-of c = grouped c .before .before .before
+
 place-task-requires : tie.Need-place-task-requires Inv-loop μ-loop
 place-task-requires c κs =
-    let at-of = c .before .before .before .before .before .before .before .before .before .before in
-    let at-loop = at-of .before .before .before in
+    let at-of = c .before .before .before .before .before .before .before .before .before .before .before in
+    let at-loop = table-of at-of .before in
     let at-by-receiver = at-loop .before .before .before .before in
     let at-merged-links = at-by-receiver .before .before .before .before .before in
     let at-pre = at-merged-links .before .before .before .before .before in
     new-wanted _ _ _ (at-pre .pre) _ (at-merged-links .merged-links .ensures) _ _ _ _ (at-by-receiver .by-receiver .ensures) _ _ _ _ _
-    (at-loop .loop .inv .0) (at-loop .loop .inv .1) (at-of .before .before .loop-test .left) _ (at-of .of .ensures)
+    (at-loop .loop .inv .0) (at-loop .loop .inv .1) (table-of at-of .loop-test .left) _ (grouped at-of .by-group .ensures) _ (at-of .of .ensures)
 
 returns : tie.Need-returns Inv-loop μ-loop
 returns c =
-    let at-of = c .before .before .before .before .before .before .before .before .before .before .before in
-    let at-loop = at-of .before .before .before in
+    let at-of = c .before .before .before .before .before .before .before .before .before .before .before .before in
+    let at-loop = table-of at-of .before in
     let at-by-receiver = at-loop .before .before .before .before in
     let at-merged-links = at-by-receiver .before .before .before .before .before in
     let at-pre = at-merged-links .before .before .before .before .before in
     new-told _ _ _ (at-pre .pre) _ (at-merged-links .merged-links .ensures) _ _ _ _ (at-by-receiver .by-receiver .ensures) _ _ _ _ _
-    (at-loop .loop .inv .0) (at-loop .loop .inv .1) (at-of .before .before .loop-test .left) _ (at-of .of .ensures) _ (c .place-task .ensures)
+    (at-loop .loop .inv .0) (at-loop .loop .inv .1) (table-of at-of .loop-test .left) _ (grouped at-of .by-group .ensures) _ (at-of .of .ensures) _
+    (c .place-task .ensures)
 
 pub place-new-spec : {M : Type 1} → statement M
 place-new-spec =
     tie.close
     (tie.spec Inv-loop μ-loop (λ c. search needs) (λ c. search needs) merged-links-requires add-m by-receiver-requires
     (λ c. search needs) loop-holds (λ c. search needs) (λ c. search needs) cast-at (λ c. search needs) (λ c. search needs)
-    (λ c. search needs) (λ c. search needs) pair-at-requires book-requires send-off-requires chain-up-requires add-j loop-less loop-again
-    (λ c. search needs) (λ c. search needs) (λ c. search needs) cast-of (λ c κs. search needs) place-task-requires returns)
+    (λ c. search needs) (λ c. search needs) (λ c. search needs) (λ c. let on = array-copy-out-own c in search needs) array-copy-out-own
+    pair-at-requires book-requires send-off-requires chain-up-requires add-j loop-less loop-again (λ c. search needs) by-group-requires
+    (λ c. search needs) (λ c. search needs) cast-of (λ c κs. search needs) place-task-requires returns)

@@ -5,7 +5,7 @@ use Rattle.reader.specs.declared.job.Job.{Job}
 use Rattle.reader.specs.Entries.{emptyJob}
 use Rattle.copies.specs.Table.{copyCount, table}
 use Rattle.judge.specs.Tasks.{tasked}
-use Rattle.judge.proofs.TaskLaws.{Placing, placing-start, placing-more, placing-done, detect-fits, leaves-soon}
+use Rattle.judge.proofs.TaskLaws.{Placing, placing-start, placing-more, placing-done, detect-fits, group-fits, leaves-soon}
 use borrow.Author.Needs.{needs}
 use Rattle.judge.proofs.tasks.place_copies.Statement.{statement}
 use Rattle.judge.proofs.tasks.place_copies.Tie as tie
@@ -80,11 +80,12 @@ put-requires c κs =
 add-put : tie.Need-add-put Inv-loop μ-loop
 add-put c = omega (arith, room (c .before .before .before .before .before .before .before .before .before .before .before .before .before))
 
-bit-of-node-requires : tie.Need-bit-of-node-requires Inv-loop μ-loop
-bit-of-node-requires c κs =
+bit-of-requires : tie.Need-bit-of-requires Inv-loop μ-loop
+bit-of-requires c κs =
     let at-noted4 = c .before .before .before .before .before .before .before .before .before .before .before .before .before in
-    let both = copied at-noted4 in
-    omega (arith, both .before .copy-of .ensures .1, both .copy-of2 .ensures .1)
+    let fits = turn at-noted4 .before .before .pre .0 in
+    let low = turn at-noted4 .loop-test .taken in
+    omega (arith, group-fits (tasked emptyJob _ _ _) _ fits _ low _ (copied at-noted4 .before .copy-of .ensures .0))
 
 put-requires-2 : tie.Need-put-requires-2 Inv-loop μ-loop
 put-requires-2 c κs =
@@ -110,7 +111,7 @@ loop-again c =
     let at-loop-test = at-copy-of2 .before .before .before .before in
     λ job. placing-more _ _ (at-loop-test .before .before .pre .0) _ _ _ _ _ _ _ (at-loop-test .before .loop .inv job) (at-loop-test .loop-test .taken)
     _ _ (at-copy-of2 .before .copy-of .ensures .0) (at-copy-of2 .copy-of2 .ensures .0) _ _ _ _ (at-noted .noted .ensures) (at-noted2 .noted2 .ensures)
-    (at-noted3 .noted3 .ensures) (at-noted4 .noted4 .ensures) _ (c .before .bit-of-node .ensures) _ _ (at-put .put .ensures .1)
+    (at-noted3 .noted3 .ensures) (at-noted4 .noted4 .ensures) _ (c .before .bit-of .ensures) _ _ (at-put .put .ensures .1)
     (c .put2 .ensures .1) (c .put2 .ensures .0)
 
 returns : tie.Need-returns Inv-loop μ-loop
@@ -126,5 +127,5 @@ place-copies-spec =
     (λ c κs. search needs) (λ c κs. search needs) add-noted (λ c κs. search needs) (λ c κs. search needs) mul-k
     add-leave (λ c. omega (arith, room (all-noted c))) (λ c. omega (arith, room (all-noted c))) add-leave-2
     (λ c. omega (arith, room (all-noted (c .before .before)))) (λ c. omega (arith, room (all-noted (c .before .before))))
-    (λ c. omega (arith, room (all-noted (c .before .before)))) put-requires add-put bit-of-node-requires put-requires-2 add-j loop-less loop-again
+    (λ c. omega (arith, room (all-noted (c .before .before)))) put-requires add-put bit-of-requires put-requires-2 add-j loop-less loop-again
     (λ c κs. search needs) returns)

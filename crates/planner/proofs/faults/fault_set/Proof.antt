@@ -9,11 +9,11 @@ use Rattle.planner.proofs.faults.fault_set.Statement.{statement}
 use Rattle.planner.proofs.faults.fault_set.Tie as tie
 
 abbrev Inv-loop : tie.InvT-loop
-Inv-loop next from delay node finish leave sets last primary weak₀ left₀ weak left =
+Inv-loop next from delay node finish leave sets last primary group weak₀ left₀ weak left =
     Faulting next from delay (results node finish leave sets) last primary left weak
 
 abbrev μ-loop : tie.MeasureT-loop
-μ-loop next from delay node finish leave sets last primary weak₀ left₀ weak left = left
+μ-loop next from delay node finish leave sets last primary group weak₀ left₀ weak left = left
 
 loop-holds : tie.Need-loop-holds Inv-loop μ-loop
 loop-holds c = faulting-start _ _ _ _ _ _ (c .pre .0)
@@ -44,7 +44,7 @@ loop-again c =
 
 returns : tie.Need-returns Inv-loop μ-loop
 returns c =
-    faulting-done _ _ _ _ _ _ _ _ (omega arith) (c .before .before .before .loop .inv) _ _ (c .before .bit-of-node .ensures)
+    faulting-done _ _ _ _ _ _ _ _ (omega arith) (c .before .before .before .loop .inv) _ _ _ (c .before .bit-of .ensures)
     (c .gather-task .ensures .0)
 
 pub fault-set-spec : {M : Type 1} → statement M

@@ -12,7 +12,7 @@ returns : tie.Need-returns
 returns c = sym (and-unless _ _ (le-ltb 0 (c .before .args .run) (omega arith)))
 
 returns-2 : tie.Need-returns-2
-returns-2 c = ap not (c .holds-node .ensures) ∙ sym (and-if _ _ (lt-ltb 0 (c .before .before .args .run) (omega arith)))
+returns-2 c = ap not (c .holds .ensures) ∙ sym (and-if _ _ (lt-ltb 0 (c .before .before .args .run) (omega arith)))
 
 pub may-run-spec : {M : Type 1} → statement M
 may-run-spec = tie.close (tie.spec

@@ -32,16 +32,40 @@ returns-2 c =
 returns-3 : tie.Need-returns-3
 unfolding nodeFields reaches faultIf valueIf widthIf
 returns-3 c =
-    let width = c .width-if .ensures in
-    let at-s = c .before .before in
-    let at-field-if = at-s .before .before in
-    let at-d = at-field-if .before .before in
-    let send = reads-more (at-field-if .field-if .ensures _ refl) (at-s .s .given .1) (width .0) no-fields in
-    (omega (arith, width .1), node-done (_ ∷ _ ∷ []) (reads-more (at-d .before .before .field .ensures) (at-d .d .given .1) refl send))
+    let fault = c .before .before .enum-told3 .given .1 in
+    let none = c .no-node3 .ensures in
+    let at-group = c .before .before .before .before in
+    let at-width = at-group .before in
+    let at-s = at-width .before .before in
+    let at-send = at-s .before .before in
+    let at-d = at-send .before .before in
+    let group = stops-at (at-group .field-if2 .ensures _ refl) fault in
+    let send = stops-behind (at-send .field-if .ensures _ refl) (at-s .s .given .1) (at-width .width-if .ensures .0) group in (
+      omega (arith, none .1),
+      fields-stopped (stops-behind (at-d .before .before .field .ensures) (at-d .d .given .1) refl send)
+          (none .0 ∙ handed (c .before .handed-on3 .ensures) fault),
+    )
+
+returns-4 : tie.Need-returns-4
+unfolding nodeFields reaches faultIf valueIf widthIf
+returns-4 c =
+    let last = c .width-if2 .ensures in
+    let at-g = c .before .before in
+    let at-group = at-g .before .before in
+    let at-width = at-group .before in
+    let width = at-width .width-if .ensures in
+    let at-s = at-width .before .before in
+    let at-send = at-s .before .before in
+    let at-d = at-send .before .before in
+    let group = reads-more (at-group .field-if2 .ensures _ refl) (at-g .g .given .1) (last .0) no-fields in
+    let send = reads-more (at-send .field-if .ensures _ refl) (at-s .s .given .1) (width .0) group in
+    let detect = reads-more (at-d .before .before .field .ensures) (at-d .d .given .1) refl send in
+    (omega (arith, width .1, last .1), node-done _ (_ ∷ _ ∷ _ ∷ []) detect)
 
 pub read-node-spec : {M : Type 1} → statement M
 read-node-spec =
     tie.close
     (tie.spec (λ c κs. search needs) (λ c. search needs) (λ c. search needs) (λ c κs. search needs) (λ c κs. search needs) returns
     (λ c. search needs) (λ c κs. search needs) (λ c. search needs) (λ c. search needs) (λ c κs. search needs) (λ c κs. search needs) returns-2
-    (λ c. search needs) (λ c κs. search needs) (λ c. search needs) returns-3)
+    (λ c. search needs) (λ c κs. search needs) (λ c. search needs) (λ c κs. search needs) (λ c. search needs) (λ c. search needs)
+    (λ c κs. search needs) (λ c κs. search needs) returns-3 (λ c κs. search needs) (λ c. search needs) returns-4)

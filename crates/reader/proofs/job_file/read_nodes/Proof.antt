@@ -19,7 +19,7 @@ use Rattle.reader.proofs.job_file.read_nodes.Tie as tie
 
 abbrev Nodes : ℕ → List ℕ → ℕ → ℕ → ℕ → List Node → Type 0
 Nodes v file =
-    RowsTo (countFault file nodeSection minNodes maxNodes) (numberAt file nodeSection) (λ at. fieldsFault v file at nodeFields) (nodeAt v file)
+    RowsTo (countFault file nodeSection minNodes maxNodes) (numberAt file nodeSection) (λ i at. fieldsFault v file at (nodeFields i)) (nodeAt v file)
     (replicate maxNodes noNode) 8 (nodeWidth v)
 
 abbrev Inv-loop : tie.InvT-loop
@@ -83,5 +83,6 @@ pub read-nodes-spec : {M : Type 1} → statement M
 read-nodes-spec =
     tie.close
     (tie.spec Inv-loop μ-loop (λ c κs. search needs) (λ c. search needs) (λ c. search needs) (λ c κs. search needs) (λ c κs. search needs) returns
-    (λ c κs. search needs) (λ c. search needs) loop-holds (λ c κs. search needs) (λ c. search needs) (λ c. search needs) (λ c κs. search needs)
+    (λ c κs. search needs) (λ c. search needs) loop-holds (λ c. search needs) (λ c κs. search needs) (λ c. search needs) (λ c. search needs)
+    (λ c κs. search needs)
     returns-2 (λ c. search needs) (λ c. search needs) (λ c. search needs) (λ c. search needs) loop-again returns-3)

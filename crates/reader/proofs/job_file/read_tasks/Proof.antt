@@ -18,7 +18,7 @@ use Rattle.reader.proofs.job_file.read_tasks.Tie as tie
 
 abbrev Tasks : ℕ → List ℕ → ℕ → ℕ → ℕ → ℕ → ℕ → List Task → Type 0
 Tasks v file base p =
-    RowsTo (countFault file base minTasks maxTasks) (numberAt file base) (λ at. taskFault v file at p) (λ at. taskAt v file at p)
+    RowsTo (countFault file base minTasks maxTasks) (numberAt file base) (λ i at. taskFault v file at p) (λ i at. taskAt v file at p)
     (replicate maxTasks blankTask) (base + 4) (taskWidth v p)
 
 abbrev Inv-loop : tie.InvT-loop
