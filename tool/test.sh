@@ -66,6 +66,15 @@ wrong() { # wrong WORDS-IN-MESSAGE WORDS..: usage, reading or writing
     check "no output: $*" is out ''
 }
 
+beyond() { # beyond LINE FIELD BYTE NUMBER LOW HIGH: this number of x.txt is refused when it is packed
+    refuses "4 (value): line $1 of 'x.txt', $2 (byte $3 when packed), is $4; it must be from $5 to $6" pack x.txt -o y
+}
+
+too_old() { # too_old WORD NAME SINCE VERSION [SED]: a field of the nodes of x.txt, in a version that lacks it
+    sed "s/^job $3/job $4/; ${5-}" x.txt >y.txt
+    wrong "'y.txt', line 4: expected the end of the line, found '$1': nodes have a $2 from 'job $3' on" pack y.txt -o y
+}
+
 bytes_of() { # the bytes of a file, into the array bytes
     read -r -d '' -a bytes < <(od -An -v -tx1 "$1")
 }
@@ -242,24 +251,24 @@ plan_of() { # plan_of PLACES PLACES: two tasks, each: node start node start
 
 job_fault_tests() {
     job_text 's/^job 1/job 0/'
-    refuses "2 (version): line 2 of 'x.txt', the version (byte 0 when packed), is 0; it must be from 1 to 4" pack x.txt -o x
+    refuses "2 (version): line 2 of 'x.txt', the version (byte 0 when packed), is 0; it must be from 1 to 4" pack x.txt -o y
     job_text '/^node/d; s/run.*/run/'
-    refuses "3 (count): 'x.txt', the node count (byte 4 when packed), is 0; it must be from 2 to 16" pack x.txt -o x
+    refuses "3 (count): 'x.txt', the node count (byte 4 when packed), is 0; it must be from 2 to 16" pack x.txt -o y
     job_text 's/node 1 detect 1/node 1 detect 1001/'
-    refuses "4 (value): line 5 of 'x.txt', the detect time of node 1 (byte 12 when packed), is 1001; it must be from 0 to 1000" pack x.txt -o x
+    beyond 5 'the detect time of node 1' 12 1001 0 1000
     job_text 's/deadline 30 run 3/deadline 0 run 3/'
-    refuses "4 (value): line 9 of 'x.txt', the deadline of task 1 (byte 40 when packed), is 0; it must be from 1 to 1000000" pack x.txt -o x
+    beyond 9 'the deadline of task 1' 40 0 1 1000000
     job_text 's/run 3 3 3/run 3 3 1000001/'
-    refuses "4 (value): line 9 of 'x.txt', the run time of task 1 on node 2 (byte 52 when packed), is 1000001; it must be from 0 to 1000000" pack x.txt -o x
+    beyond 9 'the run time of task 1 on node 2' 52 1000001 0 1000000
     job_text 's/link 0 to 1/link 2 to 1/'
-    refuses "4 (value): line 11 of 'x.txt', the from of link 0 (byte 60 when packed), is 2; it must be from 0 to 1" pack x.txt -o x
+    beyond 11 'the from of link 0' 60 2 0 1
     job_text 's/link 0 to 1/link 1 to 1/'
-    refuses "4 (value): line 11 of 'x.txt', the to of link 0 (byte 64 when packed), is 1; no task comes after the last" pack x.txt -o x
+    refuses "4 (value): line 11 of 'x.txt', the to of link 0 (byte 64 when packed), is 1; no task comes after the last" pack x.txt -o y
     job_text 's/delay 2/delay 1000001/'
-    refuses "4 (value): line 11 of 'x.txt', the delay of link 0 (byte 68 when packed), is 1000001; it must be from 0 to 1000000" pack x.txt -o x
+    beyond 11 'the delay of link 0' 68 1000001 0 1000000
     job_text '$p'
-    refuses "5 (link order): line 12 of 'x.txt', link 1 (byte 72 when packed), from 0 to 1, does not rise above the link before, from 0 to 1" pack x.txt -o x
-    check 'a refused text makes no file' test ! -e x
+    refuses "5 (link order): line 12 of 'x.txt', link 1 (byte 72 when packed), from 0 to 1, does not rise above the link before, from 0 to 1" pack x.txt -o y
+    check 'a refused text makes no file' test ! -e y
     : >x
     refuses "1 (short): 'x' has fewer than 4 bytes left at byte 0, for the version" list x
     check 'the refused listing' cmp -s out <(lines 'refused 1 0 0')
@@ -501,11 +510,11 @@ ready_file_tests() {
 
 ready_text_tests() {
     later_text 1000001 0
-    refuses "4 (value): line 8 of 'x.txt', the ready time of task 0 (byte 24 when packed), is 1000001; it must be from 0 to 1000000" pack x.txt -o y
+    beyond 8 'the ready time of task 0' 24 1000001 0 1000000
     later_text 0 4294967295
-    refuses "4 (value): line 9 of 'x.txt', the ready time of task 1 (byte 44 when packed), is 4294967295; it must be from 0 to 1000000" pack x.txt -o y
+    beyond 9 'the ready time of task 1' 44 4294967295 0 1000000
     later_text 0 0 's/deadline 30 run 3/deadline 0 run 3/'
-    refuses "4 (value): line 9 of 'x.txt', the deadline of task 1 (byte 48 when packed), is 0; it must be from 1 to 1000000" pack x.txt -o y
+    beyond 9 'the deadline of task 1' 48 0 1 1000000
     job_text 's/^task 1/& ready 5/'
     wrong "'x.txt', line 9: expected 'deadline', found 'ready': tasks have a ready time from 'job 2' on" pack x.txt -o y
     job_text 's/^job 1/job 2/'

@@ -175,39 +175,38 @@ task 1 primary 0 at 4 backup 1 at 9
 task 2 primary 0 at 15 backup 1 at 28'
 }
 
-version_tests() { # the longer job is in the version of the job
-    later 0 4
-    task_text 'task ready 8 deadline 30 run 2 2 2' 'link from 1 delay 1'
-    books r p n.txt
+books_in() { # books_in JOB WHAT TEXT: n.txt beside p; the longer job says this, and is planned as it is booked
+    books "$1" p n.txt
     good unpack y.job
-    check 'version 2' has out 'job 2
-'
-    check 'ready times' has out 'task 1 ready 4 deadline 30 run 3 3 3
+    check "$2" has out "$3"
+    good plan y.job -o x.plan
+    check "the planner's plan of it" cmp -s x.plan y.plan
+}
+
+version_tests() { # the longer job is in the version of the job
+    task_text 'task ready 8 deadline 30 run 2 2 2' 'link from 1 delay 1'
+    later 0 4
+    books_in r 'version 2, ready times' 'job 2
+node 0 detect 1
+node 1 detect 1
+node 2 detect 1
+task 0 ready 0 deadline 30 run 4 4 4
+task 1 ready 4 deadline 30 run 3 3 3
 task 2 ready 8 deadline 30 run 2 2 2
 link 0 to 1 delay 2
 link 1 to 2 delay 1'
-    good plan y.job -o x.plan
-    check "the planner's plan of it" cmp -s x.plan y.plan
     slow 3 0 1000
-    books s p n.txt
-    good unpack y.job
-    check 'version 3, send times' has out 'job 3
+    books_in s 'version 3, send times' 'job 3
 node 0 detect 1 send 3
 node 1 detect 1 send 0
 node 2 detect 1 send 1000
 task 0 ready 0 '
-    good plan y.job -o x.plan
-    check "the planner's plan of it" cmp -s x.plan y.plan
     grouped 15 3 15
-    books g p n.txt
-    good unpack y.job
-    check 'version 4, groups' has out 'job 4
+    books_in g 'version 4, groups' 'job 4
 node 0 detect 1 send 0 group 15
 node 1 detect 1 send 0 group 3
 node 2 detect 1 send 0 group 15
 task 0 ready 0 '
-    good plan y.job -o x.plan
-    check "the planner's plan of it" cmp -s x.plan y.plan
     longest_commit_tests
 }
 

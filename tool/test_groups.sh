@@ -228,25 +228,20 @@ group_file_tests() {
     refuses "4 (value): byte 28 of 'x', the supply group of node 1, is 1000; it must be from 0 to 15" unpack x
 }
 
-older_group() { # older_group VERSION [SED]: group in a job that has none
-    sed "s/^job 4/job $1/; ${2-}" x.txt >y.txt
-    wrong "'y.txt', line 4: expected the end of the line, found 'group': nodes have a supply group from 'job 4' on" pack y.txt -o y
-}
-
 group_text_tests() {
     local what='the supply group of node'
     grouped 15 15 15
     grouped_text 16 0 0
-    refuses "4 (value): line 4 of 'x.txt', $what 0 (byte 16 when packed), is 16; it must be from 0 to 15" pack x.txt -o y
+    beyond 4 "$what 0" 16 16 0 15
     grouped_text 0 0 4294967295
-    refuses "4 (value): line 6 of 'x.txt', $what 2 (byte 40 when packed), is 4294967295; it must be from 0 to 15" pack x.txt -o y
+    beyond 6 "$what 2" 40 4294967295 0 15
     grouped_text 0 0 0 's/node 1 \(.*\) send 0/node 1 \1 send 1001/'
-    refuses "4 (value): line 5 of 'x.txt', the send time of node 1 (byte 24 when packed), is 1001; it must be from 0 to 1000" pack x.txt -o y
+    beyond 5 'the send time of node 1' 24 1001 0 1000
     grouped_text 0 0 0 's/deadline 30 run 3/deadline 0 run 3/'
-    refuses "4 (value): line 9 of 'x.txt', the deadline of task 1 (byte 72 when packed), is 0; it must be from 1 to 1000000" pack x.txt -o y
-    older_group 3
-    older_group 2 's/ send 0//'
-    older_group 1 's/ send 0//'
+    beyond 9 'the deadline of task 1' 72 0 1 1000000
+    too_old group 'supply group' 4 3
+    too_old group 'supply group' 4 2 's/ send 0//'
+    too_old group 'supply group' 4 1 's/ send 0//'
     grouped_text 0 0 0 's/ group 0//'
     wrong "'x.txt', line 4: expected 'group', but the line ends" pack x.txt -o y
     grouped_text 0 '' 0

@@ -120,25 +120,20 @@ send_file_tests() {
     refuses "1 (short): 'x' has fewer than 4 bytes left at byte 80, for the deadline of task 2" unpack x
 }
 
-older_send() { # older_send VERSION: send in a job that has none
-    sed "s/^job 3/job $1/" x.txt >y.txt
-    wrong "'y.txt', line 4: expected the end of the line, found 'send': nodes have a send time from 'job 3' on" pack y.txt -o y
-}
-
 send_text_tests() {
     local what='the send time of node'
     slow 1000 1000 1000
     slow_text 1001 0 0
-    refuses "4 (value): line 4 of 'x.txt', $what 0 (byte 12 when packed), is 1001; it must be from 0 to 1000" pack x.txt -o y
+    beyond 4 "$what 0" 12 1001 0 1000
     slow_text 0 0 4294967295
-    refuses "4 (value): line 6 of 'x.txt', $what 2 (byte 28 when packed), is 4294967295; it must be from 0 to 1000" pack x.txt -o y
+    beyond 6 "$what 2" 28 4294967295 0 1000
     slow_text 0 0 0 's/node 1 detect 1/node 1 detect 1001/'
-    refuses "4 (value): line 5 of 'x.txt', the detect time of node 1 (byte 16 when packed), is 1001; it must be from 0 to 1000" pack x.txt -o y
+    beyond 5 'the detect time of node 1' 16 1001 0 1000
     slow_text 0 0 0 's/deadline 30 run 3/deadline 0 run 3/'
-    refuses "4 (value): line 9 of 'x.txt', the deadline of task 1 (byte 60 when packed), is 0; it must be from 1 to 1000000" pack x.txt -o y
+    beyond 9 'the deadline of task 1' 60 0 1 1000000
     slow_text 3 0 0
-    older_send 1
-    older_send 2
+    too_old send 'send time' 3 1
+    too_old send 'send time' 3 2
     slow_text 0 0 0 's/ send 0//'
     wrong "'x.txt', line 4: expected 'send', but the line ends" pack x.txt -o y
     slow_text 0 '' 0

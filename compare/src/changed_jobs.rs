@@ -14,95 +14,71 @@ pub fn try_changed_jobs(
     given: &Given,
     plan: &Plan,
 ) -> Result<(), Mismatch> {
-    try_deadlines(trial, random, given, plan)?;
-    try_ready_times(trial, random, given, plan)?;
-    try_send_times(trial, random, given, plan)?;
-    try_groups(trial, random, given, plan)
+    let job = &given.job;
+    let mut jobs = with_deadlines(random, job, plan);
+    jobs.extend(with_ready_times(random, job, plan));
+    jobs.extend(with_send_times(random, job, plan));
+    jobs.push(with_drawers_put_together(random, job, plan));
+    jobs.into_iter().try_for_each(|job| try_changed_job(trial, job, plan))
+}
+
+/// The job changed, in a version that has what is changed.
+fn changed(job: &Job, version: u64, change: impl FnOnce(&mut Job)) -> Job {
+    let mut job = Job { version, ..job.clone() };
+    change(&mut job);
+    job
 }
 
 /// A deadline set to a finish of the plan, and to one tick less.
-fn try_deadlines(
-    trial: &mut Trial,
-    random: &mut Random,
-    given: &Given,
-    plan: &Plan,
-) -> Result<(), Mismatch> {
+fn with_deadlines(random: &mut Random, job: &Job, plan: &Plan) -> Vec<Job> {
     let task = random.below(plan.rows.len());
     let places = [plan.rows[task].primary, plan.rows[task].backup];
-    for place in places {
-        let finish = place.start + given.job.tasks[task].run[place.node];
-        for deadline in [finish, finish - 1] {
-            let mut job = given.job.clone();
-            job.tasks[task].deadline = deadline;
-            try_changed_job(trial, job, plan)?;
-        }
-    }
-    Ok(())
+    let finishes = places.map(|place| place.start + job.tasks[task].run[place.node]);
+    let deadlines = finishes.into_iter().flat_map(|finish| [finish, finish - 1]);
+    let with = |deadline| changed(job, job.version, |job| job.tasks[task].deadline = deadline);
+    deadlines.map(with).collect()
 }
 
 /// A ready time set to the primary's start, and to one tick more.
-fn try_ready_times(
-    trial: &mut Trial,
-    random: &mut Random,
-    given: &Given,
-    plan: &Plan,
-) -> Result<(), Mismatch> {
+fn with_ready_times(random: &mut Random, job: &Job, plan: &Plan) -> Vec<Job> {
     let task = random.below(plan.rows.len());
     let start = plan.rows[task].primary.start;
-    for ready in [start, start + 1] {
-        let mut job = Job { version: NEWEST, ..given.job.clone() };
-        job.tasks[task].ready = ready;
-        try_changed_job(trial, job, plan)?;
-    }
-    Ok(())
+    let with = |ready| changed(job, NEWEST, |job| job.tasks[task].ready = ready);
+    vec![with(start), with(start + 1)]
 }
 
 /// A send time that a result can just afford on its way to a start, and one tick more.
-fn try_send_times(
-    trial: &mut Trial,
-    random: &mut Random,
-    given: &Given,
-    plan: &Plan,
-) -> Result<(), Mismatch> {
-    if given.job.links.is_empty() {
-        return Ok(());
+fn with_send_times(random: &mut Random, job: &Job, plan: &Plan) -> Vec<Job> {
+    if job.links.is_empty() {
+        return Vec::new();
     }
-    let link = random.pick(&given.job.links);
-    let placed = layout(&given.job, plan);
+    let link = random.pick(&job.links);
+    let placed = layout(job, plan);
     let sender = random.pick(&[placed.primaries[link.from], placed.backups[link.from]]);
     let receiver = random.pick(&[placed.primaries[link.to], placed.backups[link.to]]);
-    let spare = receiver.start.checked_sub(sender.finish + link.delay);
-    if let Some(spare) = spare.filter(|&spare| spare <= MAX_SEND) {
-        for send in [spare, spare + 1] {
-            let mut job = Job { version: NEWEST, ..given.job.clone() };
-            job.nodes[sender.node].send = send;
-            try_changed_job(trial, job, plan)?;
-        }
+    let with = |send| changed(job, NEWEST, |job| job.nodes[sender.node].send = send);
+    match receiver.start.checked_sub(sender.finish + link.delay) {
+        Some(spare) if spare <= MAX_SEND => vec![with(spare), with(spare + 1)],
+        _ => Vec::new(),
     }
-    Ok(())
 }
 
 /// Two drawers put together, one of each of two tasks' fault sets. Where two backups share time,
 /// or one does not wait for the other, the sets are apart: there they are made to meet, if there
 /// is such a pair of drawers that no task has its two copies in.
-fn try_groups(
-    trial: &mut Trial,
-    random: &mut Random,
-    given: &Given,
-    plan: &Plan,
-) -> Result<(), Mismatch> {
-    let placed = layout(&given.job, plan);
-    let sets = fault_sets(&given.job, &placed);
-    let mut tasks = resting_apart(&given.job, &placed);
+fn with_drawers_put_together(random: &mut Random, job: &Job, plan: &Plan) -> Job {
+    let placed = layout(job, plan);
+    let sets = fault_sets(job, &placed);
+    let mut tasks = resting_apart(job, &placed);
     tasks.push((random.below(sets.len()), random.below(sets.len())));
     let (first, second) = random.pick(&tasks);
     let pairs = sets[first].iter().flat_map(|&a| sets[second].iter().map(move |&b| (a, b)));
     let (free, held): (Vec<_>, Vec<_>) = pairs.partition(|&pair| !holds_a_task(&placed, pair));
     let (from, to) = random.pick(if free.is_empty() { &held } else { &free });
-    let mut job = Job { version: NEWEST, ..given.job.clone() };
-    let moved = job.nodes.iter_mut().filter(|node| node.group == from);
-    moved.for_each(|node| node.group = to);
-    try_changed_job(trial, job, plan)
+    changed(job, NEWEST, |job| {
+        let moved = job.nodes.iter_mut().filter(|node| node.group == from);
+        moved.for_each(|node| node.group = to);
+    })
 }
 
 /// Whether some task has one copy in either of two groups: put together, they break rule A.

@@ -3,6 +3,17 @@
 
 #include <string.h>
 
+void expect_booked(const uint32_t wanted[4])
+{
+    expect(ASK, 0, SEQOPCHI_DONE, 0, 0);
+    check(memcmp(places, wanted, sizeof places) == 0, "another place asked for");
+    for (int i = 0; i < 4; i++)
+        set_number(&booking, NEW_PRIMARY + i, wanted[i]);
+    expect(COMMIT, ROOM, SEQOPCHI_DONE, 0, 0);
+    check(memcmp(out, job.data, SEQOPCHI_JOB_BYTES(version, 3, 0, 0) - 8) == 0,
+          "the longer job has other nodes");
+}
+
 /* Read well: whatever comes behind the faults of description and booking. */
 static void expect_read(enum call call)
 {

@@ -2,8 +2,6 @@
  * them. */
 #include "limits.h"
 
-#include <string.h>
-
 /* Just these groups, as bits, can be lost. Another is refused before too little room. */
 static void expect_losable(uint32_t groups)
 {
@@ -205,13 +203,7 @@ static void check_placed(const uint32_t groups[3], uint32_t backup)
     check(plan.data[SEQOPCHI_PLAN_BYTES(0) + 8] == backup, "another node of the backup");
     numbers[NEW_LINKS] = 1;
     write_task();
-    expect(ASK, 0, SEQOPCHI_DONE, 0, 0);
-    check(memcmp(places, wanted, sizeof places) == 0, "another place asked for");
-    for (int i = 0; i < 4; i++)
-        set_number(&booking, NEW_PRIMARY + i, wanted[i]);
-    expect(COMMIT, ROOM, SEQOPCHI_DONE, 0, 0);
-    check(memcmp(out, job.data, SEQOPCHI_JOB_BYTES(version, 3, 0, 0) - 8) == 0,
-          "the longer job has other nodes");
+    expect_booked(wanted);
     set_number(&booking, NEW_BACKUP, 1);
     set_number(&booking, NEW_BACKUP_START, 11);
     if (backup == 1)

@@ -75,6 +75,9 @@ int is_marked(const void *output, size_t length);
 void expect_outcomes(enum call call, uint32_t task, uint8_t primary, uint8_t backup);
 /* These fault sets and nothing behind them, with more room than that. */
 void expect_sets(uint32_t tasks, const uint32_t *sets);
+/* The new task is asked for, its place is this one, and it is booked there, in a job of
+ * three nodes, which are the job's still. */
+void expect_booked(const uint32_t wanted[4]);
 /* A refusal, by which nothing is written. */
 void expect_kept(enum call call, size_t out_len, unsigned number,
                  size_t first, size_t second);

@@ -107,13 +107,7 @@ static void check_asked(const uint32_t send[3], const uint32_t wanted[4])
     write_task();
     clear_run(&task, NEW_RUN);
     clear_run(&booking, NEW_RUN);
-    expect(ASK, 0, SEQOPCHI_DONE, 0, 0);
-    check(memcmp(places, wanted, sizeof places) == 0, "another place asked for");
-    for (int i = 0; i < 4; i++)
-        set_number(&booking, NEW_PRIMARY + i, wanted[i]);
-    expect(COMMIT, ROOM, SEQOPCHI_DONE, 0, 0);
-    check(memcmp(out, job.data, SEQOPCHI_JOB_BYTES(version, 3, 0, 0) - 8) == 0,
-          "the longer job has other nodes");
+    expect_booked(wanted);
     set_number(&booking, NEW_PRIMARY_START, wanted[1] - 1);
     expect(COMMIT, ROOM, SEQOPCHI_REFUSED_STALE, 1, 1);
 }

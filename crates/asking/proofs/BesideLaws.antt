@@ -41,9 +41,9 @@ use Rattle.planner.proofs.StoreLaws.{beside-start, pair-bookable, pair-departin
 use Rattle.planner.proofs.WantLaws.{Told, asked, told}
 use Rattle.asking.specs.Calls.{Asking}
 use Rattle.asking.specs.Merge.{mergedLinks, Merged}
-use Rattle.asking.specs.Beside.{PlacesFit, Takeable, Taken, Storing, StoredTo, placeNew}
+use Rattle.asking.specs.Beside.{PlacesFit, Takeable, Taken, Storing, StoredTo, BesideTo, placeNew}
 
-pub book-start : (job : Job) (plan : Plan) (leave before last : List ℕ) → leave ≡ replicate copyCount 0 → before ≡ replicate copyCount 0
+book-start : (job : Job) (plan : Plan) (leave before last : List ℕ) → leave ≡ replicate copyCount 0 → before ≡ replicate copyCount 0
     → last ≡ replicate maxNodes 0 → StoredTo job plan 0 emptyCopies leave before last
 book-start job plan leave before last o b l =
     record { is = empty-rows ∙ sym (grow-start blankRow (plannedRow job plan)); beside = beside-start job leave before last o b l }
@@ -56,7 +56,7 @@ module _ (job : Job) (plan : Plan) (into next from delay : List ℕ) (n : ℕ) (
   fit : SoundPlace (nodes job) (task job j .run) (place plan j)
   fit = can .fit j below
 
-  pub links-few : getD into j 0 ≤ maxLinks
+  links-few : getD into j 0 ≤ maxLinks
   links-few = into-few job _ _ _ _ (can .sent) j (can .sound) task-of
 
   -- the group of its primary's node
@@ -129,93 +129,111 @@ module _ (next from delay : List ℕ) (rs : Results) (i : ℕ) (t u : Task) (sam
   taken-as r h = subst (λ v. Taken next from delay rs i v x g r) same h
 
 -- the longer job: the tasks of the plan are the job's own, and behind them is the new one
-module _ (job : Job) (plan : Plan) (d : Description) (ok : Asking job plan d)
-    (list : List Link) (is : Merged (job .links) (links job) (d .links) (newLinks d) list) where
+module _ (job : Job) (plan : Plan) (d : Description) where
   abbrev big : Job
   big = longerJob job d
-
-  big-sound : Sound big
-  big-sound = longer-sound job d (ok .room) (ok .new) (ok .sound)
-
-  links-are : list ≡ big .links
-  unfolding longerJob mergedLinks
-  links-are = is job d
-
-  pub merged-sendable : Sendable list (links job + newLinks d)
-  unfolding longerJob
-  merged-sendable = subst (λ l. Sendable l (links job + newLinks d)) (sym links-are) (sendable big big-sound)
-
-  fit-new : PlacesFit big plan (tasks job)
-  unfolding longerJob
-  fit-new j p =
-      subst (λ t. SoundPlace (nodes job) (t .run) (place plan j)) (sym (task-old job d (ok .room) j p)) (place-of job plan (ok .planned) j p)
 
   new-of : tasks job < tasks big
   unfolding longerJob
   new-of = omega arith
 
-  module _ (into next from delay : List ℕ) (sent : Sent list (links job + newLinks d) into next from delay) where
-    big-sent : Sent (big .links) (links big) into next from delay
-    unfolding longerJob
-    big-sent = subst (λ l. Sent l (links job + newLinks d) into next from delay) links-are sent
+  -- its links are merged
+  module _ (ok : Asking job plan d) (list : List Link) (is : Merged (job .links) (links job) (d .links) (newLinks d) list) where
+    big-sound : Sound big
+    big-sound = longer-sound job d (ok .room) (ok .new) (ok .sound)
 
-    storing : Storing big plan into next from delay (tasks job)
-    storing = record { sound = big-sound; sent = big-sent; within = omega (arith, new-of); fit = fit-new }
+    links-are : list ≡ big .links
+    unfolding longerJob mergedLinks
+    links-are = is job d
+
+    pub merged-sendable : Sendable list (links job + newLinks d)
+    unfolding longerJob
+    merged-sendable = subst (λ l. Sendable l (links job + newLinks d)) (sym links-are) (sendable big big-sound)
+
+    fit-new : PlacesFit big plan (tasks job)
+    unfolding longerJob
+    fit-new j p =
+        subst (λ t. SoundPlace (nodes job) (t .run) (place plan j)) (sym (task-old job d (ok .room) j p)) (place-of job plan (ok .planned) j p)
+
+    pub beside-none : (into next from delay : List ℕ) → Sent list (links job + newLinks d) into next from delay
+        → (leave before last : List ℕ) → leave ≡ replicate copyCount 0 → before ≡ replicate copyCount 0 → last ≡ replicate maxNodes 0
+        → BesideTo job plan d into next from delay 0 emptyCopies leave before last
+    unfolding longerJob
+    beside-none into next from delay sent leave before last o b l =
+        let big-sent = subst (λ l. Sent l (links job + newLinks d) into next from delay) links-are sent in
+        record {
+          asking = ok;
+          storing = record { sound = big-sound; sent = big-sent; within = omega (arith, new-of); fit = fit-new };
+          stored = book-start big plan leave before last o b l;
+          within = omega arith;
+        }
+
+  -- and its first j tasks stored
+  module _ (into next from delay : List ℕ) (j : ℕ) (cs : Copies) (leave before last : List ℕ)
+      (so-far : BesideTo job plan d into next from delay j cs leave before last) where
+    abbrev can : Storing big plan into next from delay (tasks job)
+    can = so-far .storing
 
     pub new-few : getD into (tasks job) 0 ≤ maxLinks
-    new-few = into-few big _ _ _ _ big-sent (tasks job) big-sound new-of
+    new-few = into-few big _ _ _ _ (can .sent) (tasks job) (can .sound) new-of
 
-    module _ (j : ℕ) (below : j < tasks job) where
+    module _ (below : j < tasks job) where
       pub old-few : getD into j 0 ≤ maxLinks
-      old-few = links-few big plan _ _ _ _ _ storing j below
+      old-few = links-few big plan _ _ _ _ _ can j below
 
       abbrev its : ℕ
       its = group job (place plan j .«primary_node»)
 
       same-task : task big j ≡ task job j
-      same-task = task-old job d (ok .room) j below
+      same-task = task-old job d (so-far .asking .room) j below
 
-      module _ (cs : Copies) (leave before last : List ℕ) (so-far : StoredTo big plan j cs leave before last) where
-        pub old-takeable : Takeable next from delay (outOf cs leave) (getD into j 0) (task job j) (place plan j) its
+      pub old-takeable : Takeable next from delay (outOf cs leave) (getD into j 0) (task job j) (place plan j) its
+      unfolding longerJob
+      old-takeable = takeable-as _ _ _ _ _ _ _ same-task _ _ (takeable big plan _ _ _ _ _ can j below cs leave before last (so-far .stored))
+
+      module _ (x : Pair) (taken : Taken next from delay (outOf cs leave) (getD into j 0) (task job j) (place plan j) its x) where
+        big-taken : Taken next from delay (outOf cs leave) (getD into j 0) (task big j) (place plan j) its x
+        big-taken = taken-as _ _ _ _ _ _ _ (sym same-task) _ _ x taken
+
+        pub old-bookable : Bookable cs j x
         unfolding longerJob
-        old-takeable = takeable-as _ _ _ _ _ _ _ same-task _ _ (takeable big plan _ _ _ _ _ storing j below cs leave before last so-far)
+        old-bookable = bookable big plan _ _ _ _ _ can j below cs leave before last (so-far .stored) x big-taken
 
-        module _ (x : Pair) (taken : Taken next from delay (outOf cs leave) (getD into j 0) (task job j) (place plan j) its x) where
-          big-taken : Taken next from delay (outOf cs leave) (getD into j 0) (task big j) (place plan j) its x
-          big-taken = taken-as _ _ _ _ _ _ _ (sym same-task) _ _ x taken
+        pub old-departing : Departing (job .nodes) j x
+        unfolding longerJob
+        old-departing = departing big plan _ _ _ _ _ can j below cs leave before last (so-far .stored) x big-taken
 
-          pub old-bookable : Bookable cs j x
-          unfolding longerJob
-          old-bookable = bookable big plan _ _ _ _ _ storing j below cs leave before last so-far x big-taken
-
-          pub old-departing : Departing (job .nodes) j x
-          unfolding longerJob
-          old-departing = departing big plan _ _ _ _ _ storing j below cs leave before last so-far x big-taken
-
-          pub old-more : (r : Copies) → Booked j x cs r → (leave' before' last' : List ℕ) → leave' ≡ departed (job .nodes) j x leave
-              → ChainedUp j x last before last' before' → StoredTo big plan (j + 1) r leave' before' last'
-          unfolding longerJob
-          old-more = book-more big plan _ _ _ _ _ storing j below cs leave before last so-far x big-taken
+        pub old-more : (r : Copies) → Booked j x cs r → (leave' before' last' : List ℕ) → leave' ≡ departed (job .nodes) j x leave
+            → ChainedUp j x last before last' before' → BesideTo job plan d into next from delay (j + 1) r leave' before' last'
+        unfolding longerJob
+        old-more r b leave' before' last' gone up =
+            record {
+              asking = so-far .asking;
+              storing = can;
+              stored = book-more big plan _ _ _ _ _ can j below cs leave before last (so-far .stored) x big-taken r b leave' before' last' gone up;
+              within = omega (arith, below);
+            }
 
     -- the new task, beside all of the plan
-    module _ (j : ℕ) (cs : Copies) (leave before last : List ℕ) (so-far : StoredTo big plan j cs leave before last)
-        (within : j ≤ tasks job) (all : tasks job ≤ j) (peers : List ℕ) (by-group : Peers (job .nodes) (nodes job) peers) (want : Want)
+    module _ (all : tasks job ≤ j) (peers : List ℕ) (by-group : Peers (job .nodes) (nodes job) peers) (want : Want)
         (asks : want ≡ wantOf (tasks job) (d .task) (job .nodes) (nodes job) (getD into (tasks job) 0)) where
       stored : StoredTo big plan (tasks job) cs leave before last
-      stored = let e : j ≡ tasks job = omega arith in subst (λ m. StoredTo big plan m cs leave before last) e so-far
+      stored =
+          let e : j ≡ tasks job = omega (arith, all, so-far .within) in
+          subst (λ m. StoredTo big plan m cs leave before last) e (so-far .stored)
 
       want-is : want ≡ wantOf (tasks job) (task big (tasks job)) (big .nodes) (nodes big) (getD into (tasks job) 0)
       unfolding longerJob
-      want-is = asks ∙ ap (λ t. wantOf (tasks job) t (job .nodes) (nodes job) (getD into (tasks job) 0)) (sym (task-new job d (ok .room)))
+      want-is = asks ∙ ap (λ t. wantOf (tasks job) t (job .nodes) (nodes job) (getD into (tasks job) 0)) (sym (task-new job d (so-far .asking .room)))
 
       big-peers : Peers (big .nodes) (nodes big) peers
       unfolding longerJob
       big-peers = by-group
 
       pub new-wanted : Wanted next from delay cs leave before last peers want
-      new-wanted = asked big into _ _ _ _ _ _ _ _ big-sound big-sent (stored .beside) new-of peers big-peers want want-is
+      new-wanted = asked big into _ _ _ _ _ _ _ _ (can .sound) (can .sent) (stored .beside) new-of peers big-peers want want-is
 
       pub new-told : (a : Placing) → Told next from delay cs leave before last peers want a → attempted a ≡ placeNew job plan d
       new-told a f =
-          told big into _ _ _ _ _ _ _ _ big-sound big-sent (stored .beside) new-of peers big-peers want want-is a f
+          told big into _ _ _ _ _ _ _ _ (can .sound) (can .sent) (stored .beside) new-of peers big-peers want want-is a f
           ∙ ap (λ t. placeTask big (anywhere (tasks job)) (tasks job) t (tasks job)) (stored .is)

@@ -21,6 +21,7 @@ use Rattle.planner.specs.declared.task.Pair.{Pair}
 use Rattle.planner.specs.Senders.{Results, Sent, Sending}
 use Rattle.planner.specs.Faults.{Faulted}
 use Rattle.planner.specs.Tasks.{Beside}
+use Rattle.asking.specs.Calls.{Asking}
 
 -- the first n places of a plan read well for a job
 abbrev pub PlacesFit : Job → Plan → ℕ → Type 0
@@ -50,6 +51,14 @@ pub record Storing (job : Job) (plan : Plan) (into next from delay : List ℕ) (
 pub record StoredTo (job : Job) (plan : Plan) (n : ℕ) (cs : Copies) (leave before last : List ℕ) : Type 0 where
   pub is : rowOf cs ≡ rowsTo job plan n
   pub beside : Beside job n cs leave before last
+
+-- where the tasks of a plan are stored one by one: of the job with the new task, the links stand by receiver and the first j tasks in the table
+pub record BesideTo (job : Job) (plan : Plan) (d : Description) (into next from delay : List ℕ) (j : ℕ) (cs : Copies) (leave before last : List ℕ)
+    : Type 0 where
+  pub asking : Asking job plan d
+  pub storing : Storing (longerJob job d) plan into next from delay (tasks job)
+  pub stored : StoredTo (longerJob job d) plan j cs leave before last
+  pub within : j ≤ tasks job
 
 -- the planner's step for the longer job's last task, beside the plan
 abbrev pub placeNew : Job → Plan → Description → Attempt Row

@@ -9,7 +9,8 @@ use lib.Pow.{shl-exact, shr-shr, pow-pos, pow-lt, pow-add}
 use borrow.Author.Tests.{eqb-true, eqb-false, eq-eqb}
 use native.Mathlib.Decide.{decLt}
 use native.Mathlib.Omega.{arith}
-use native.Mathlib.Nat.{one-mul, mod-lt, max-le, min-le-left, le-of-suc-le-suc, lt-of-le-of-lt, zero-lt-suc, div-add-mod', div-one, zero-div, div-self, div-eq-of-lt, mul-div-cancel, pow-suc, mul-mod-left}
+use native.Mathlib.Nat.{one-mul, mod-lt, max-le, min-le-left, le-of-suc-le-suc, lt-of-le-of-lt, zero-lt-suc, pow-suc, mul-mod-left}
+use native.Mathlib.Nat.{div-add-mod', div-one, zero-div, div-self, div-eq-of-lt, mul-div-cancel}
 use Rattle.reader.specs.Tests.{_and_, _or_}
 use Rattle.reader.specs.First.{_or-else_, first, unless, any, every}
 use Rattle.reader.proofs.TestLaws.{split, clash, and-l, and-r, and-i, not-true}

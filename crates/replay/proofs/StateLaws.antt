@@ -6,7 +6,7 @@ use native.Mathlib.Omega.{arith}
 use borrow.Author.Tests.{eq-eqb, ne-eqb, lt-ltb, le-ltb, le-leb, lt-leb}
 use Rattle.reader.specs.declared.job.Job.{Job}
 use Rattle.reader.specs.Tests.{_and_}
-use Rattle.reader.proofs.TestLaws.{clash, never}
+use Rattle.reader.proofs.TestLaws.{and-if, clash, never}
 use Rattle.rules.specs.declared.Copy.{Copy}
 use Rattle.rules.specs.declared.Loss.{Loss}
 use Rattle.rules.specs.declared.Loss.the-variants.{NoLoss, Lost}
@@ -15,7 +15,6 @@ use Rattle.rules.specs.Replay.{State, notStarted, cut, finished, isFinished, st
 use Rattle.replay.specs.declared.states.Pair.{Pair}
 use Rattle.replay.specs.declared.states.Outcome.{Outcome}
 use Rattle.replay.specs.States.{runFed, pairRow, outcome}
-use Rattle.reader.proofs.TestLaws.{and-if}
 
 -- `state_of`
 module _ (job : Job) (loss : Loss) (may : Bool) (c : Copy) where
@@ -83,12 +82,23 @@ module _ (job : Job) (loss : Loss) (fed fedBackup : Bool) (x : Pair) (a : ℕ) (
   unfolding outcome runFed finishOf
   settle-primary two = rw (finished-two first (sym e ∙ two), barred job loss (x .detected and fedBackup) (x .backup))
 
-  module _ (other : a ≡ 2 → ⊥) (may : Bool) (m : may ≡ (x .detected and fedBackup)) (s : ℕ) (h : s ≡ stateNumber (attempt job loss may (x .backup))) where
-    pub settle-backup : s ≡ 2 → _≡_ {A = Outcome} (record { primary = a; backup = 2; finish = x .backup .finish }) told
-    unfolding outcome runFed finishOf
-    settle-backup two = rw (not-finished first (λ q. other (e ∙ q)), and-if true (x .detected and fedBackup) refl, ← m, finished-two (attempt job loss may (x .backup)) (sym h ∙ two), e)
+  -- the primary did not finish: the backup may start, or may not
+  module _ (other : a ≡ 2 → ⊥) (may : Bool) (m : may ≡ (x .detected and fedBackup)) where
+    abbrev second : State
+    second = attempt job loss may (x .backup)
 
-    pub settle-neither : (s ≡ 2 → ⊥) → _≡_ {A = Outcome} (record { primary = a; backup = s; finish = 0 }) told
-    unfolding outcome runFed finishOf
-    settle-neither neither =
-        rw (not-finished first (λ q. other (e ∙ q)), and-if true (x .detected and fedBackup) refl, ← m, not-finished (attempt job loss may (x .backup)) (λ q. neither (h ∙ q)), e, h)
+    unfinished : isFinished first ≡ false
+    unfinished = not-finished first (λ q. other (e ∙ q))
+
+    called-on : runFed job loss fed fedBackup x ≡ record { primary = first; backup = second }
+    unfolding runFed
+    called-on = rw (unfinished, and-if true (x .detected and fedBackup) refl, ← m)
+
+    module _ (s : ℕ) (h : s ≡ stateNumber second) where
+      pub settle-backup : s ≡ 2 → _≡_ {A = Outcome} (record { primary = a; backup = 2; finish = x .backup .finish }) told
+      unfolding outcome finishOf
+      settle-backup two = rw (called-on, unfinished, finished-two second (sym h ∙ two), e)
+
+      pub settle-neither : (s ≡ 2 → ⊥) → _≡_ {A = Outcome} (record { primary = a; backup = s; finish = 0 }) told
+      unfolding outcome finishOf
+      settle-neither neither = rw (called-on, unfinished, not-finished second (λ q. neither (h ∙ q)), e, h)

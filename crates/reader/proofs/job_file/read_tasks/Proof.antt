@@ -1,3 +1,4 @@
+-- `reader::job_file::read_tasks` meets its contract.
 use Prim.Native.Nat.{ℕ, _+_, _*_, _-_, _≤_}
 use mathlib.Core.Path.{_≡_, _∙_}
 use mathlib.Core.List.{List}

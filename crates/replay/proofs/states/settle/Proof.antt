@@ -1,3 +1,4 @@
+-- `replay::states::settle` meets its contract.
 use Rattle.replay.proofs.StateLaws.{settle-primary, settle-backup, settle-neither}
 use borrow.Author.Needs.{needs}
 use Rattle.replay.proofs.states.settle.Statement.{statement}

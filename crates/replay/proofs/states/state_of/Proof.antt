@@ -1,3 +1,4 @@
+-- `replay::states::state_of` meets its contract.
 use native.Mathlib.Omega.{arith}
 use borrow.Author.Needs.{needs}
 use Rattle.reader.proofs.TestLaws.{not-e, not-x}
