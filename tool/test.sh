@@ -90,6 +90,7 @@ lines() { printf '%s\n' "$@"; }
 
 . "$home/tool/test_sending.sh"
 . "$home/tool/test_groups.sh"
+. "$home/tool/test_order.sh"
 . "$home/tool/test_asking.sh"
 . "$home/tool/test_trace.sh"
 
@@ -802,7 +803,7 @@ week_step() {
 }
 
 for group in sample round_trip example job_fault plan_fault rule ready ready_chart ready_file ready_text \
-    send send_chart send_file send_text group group_chart group_file group_text ask commit stale full task_fault task_file task_text \
+    send send_chart send_file send_text group group_chart group_file group_text order ask commit stale full task_fault task_file task_text \
     trace trace_file usage ask_usage trace_usage input output commit_output week demo; do
     "${group}_tests"
 done

@@ -82,7 +82,7 @@ pub fn try_unpassed(
 }
 
 /// Ask and commit on any two files.
-fn try_both(
+pub fn try_both(
     trial: &mut Trial,
     job: &[u8],
     plan: &[u8],

@@ -6,6 +6,7 @@ use crate::earlier::{keeps_rule_e_of_01, without_drawers, without_send_times};
 use crate::files::{read_job, read_plan, write_plan, Job, Place, Plan, Row};
 use crate::given::Given;
 use crate::losses::try_survival;
+use crate::order_of_time::goes_before;
 use crate::random::Random;
 use crate::refusal::{describe, Refusal, NO_BACKUP, NO_PRIMARY, STALE};
 use crate::rules::{layout, sharing_backups};
@@ -18,12 +19,15 @@ pub struct Held {
     pub plan_bytes: Vec<u8>,
     /// Whether the plan is the planner's own.
     pub planned: bool,
+    /// Whether a commit made it.
+    is_longer: bool,
 }
 
 impl Held {
     /// A pair that passes.
     pub fn new(trial: &mut Trial, job: Job, plan: Plan, planned: bool) -> Result<Held, Mismatch> {
-        let held = Held { plan_bytes: write_plan(&plan), given: Given::new(job), plan, planned };
+        let (given, plan_bytes) = (Given::new(job), write_plan(&plan));
+        let held = Held { given, plan, plan_bytes, planned, is_longer: false };
         let call = held.given.judge(&held.plan_bytes);
         let code = trial.compare(&call)?;
         if code != 0 {
@@ -74,7 +78,10 @@ impl Held {
             let [node, start, backup_node, backup_start] = trial.written_places();
             let place = |node: u32, start: u32| Place { node: node as usize, start: start.into() };
             let (primary, backup) = (place(node, start), place(backup_node, backup_start));
-            return Ok(Some(Row { primary, backup }));
+            let row = Row { primary, backup };
+            let into_gap = self.is_longer && goes_before(self.job(), &self.plan, &row);
+            trial.tally.asked_into_gap += u64::from(into_gap);
+            return Ok(Some(row));
         }
         let unplaced = [NO_PRIMARY, NO_BACKUP].map(|number| Refusal::of_task(number, self.tasks()));
         if self.planned && unplaced.map(Refusal::code).contains(&code) {
@@ -128,7 +135,8 @@ impl Held {
         if code == 0 {
             let job = read_job(trial.written()).expect("a longer job reads well");
             let plan = read_plan(&job, trial.written_plan()).expect("and so does its plan");
-            return Held::new(trial, job, plan, false).map(Some);
+            let longer = Held::new(trial, job, plan, false)?;
+            return Ok(Some(Held { is_longer: true, ..longer }));
         }
         assert_eq!(code, Refusal::of_task(STALE, self.tasks()).code(), "there is room for all");
         let longer = Given::new(longer_job(self.job(), new).expect("full would come first"));

@@ -107,7 +107,7 @@ fn random_groups(random: &mut Random, style: &Style) -> Vec<u64> {
     let most = random.between(2, style.nodes);
     let mut numbers: Vec<u64> = (0..=MAX_GROUP).collect();
     if random.percent(50) {
-        (1..numbers.len()).for_each(|at| numbers.swap(at, random.below(at + 1)));
+        random.shuffle(&mut numbers);
     }
     let kind = random.between(0, 99);
     let mut drawer = |node: u64| match kind {

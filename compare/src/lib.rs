@@ -1,4 +1,4 @@
-//! A second implementation of document 01 and of requests (i) to (vi) of document 02, and
+//! A second implementation of document 01 and of requests (i) to (vii) of document 02, and
 //! what compares the proved library with it.
 
 pub mod asked_samples;
@@ -6,6 +6,8 @@ pub mod asking;
 pub mod bookings;
 pub mod changed_jobs;
 pub mod console;
+pub mod crowded;
+pub mod crowds;
 pub mod damage;
 pub mod descriptions;
 pub mod drawers;
@@ -18,12 +20,15 @@ pub mod fills;
 pub mod foreign;
 pub mod forgetful;
 pub mod framed;
+pub mod free_places;
 pub mod gathering;
 pub mod given;
 pub mod group_samples;
 pub mod held;
 pub mod jobs;
 pub mod losses;
+pub mod order_of_time;
+pub mod order_samples;
 pub mod planner;
 pub mod plans;
 pub mod random;

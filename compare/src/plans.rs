@@ -8,10 +8,16 @@ use crate::rules::{arrival, Copy};
 /// A plan that keeps the rules but is not the planner's: each copy stands on a random node at a
 /// random start of those where rules just hold, or a little later. None if no place was found.
 pub fn passing_plan(random: &mut Random, job: &Job) -> Option<Plan> {
+    let nodes: Vec<usize> = (0..job.nodes.len()).collect();
+    passing_plan_on(random, job, [&nodes, &nodes])
+}
+
+/// The same with the nodes for primaries and those for backups given.
+pub fn passing_plan_on(random: &mut Random, job: &Job, nodes: [&[usize]; 2]) -> Option<Plan> {
     let mut draft = Draft::new(job);
     let haste = random.between(20, 100);
     for _ in 0..job.tasks.len() {
-        let placed = (0..4).any(|_| place_next(random, &mut draft, haste));
+        let placed = (0..4).any(|_| place_next(random, &mut draft, nodes, haste));
         if !placed {
             return None;
         }
@@ -20,12 +26,12 @@ pub fn passing_plan(random: &mut Random, job: &Job) -> Option<Plan> {
 }
 
 /// Places both copies of the next task, or neither.
-fn place_next(random: &mut Random, draft: &mut Draft, haste: u64) -> bool {
-    let Some(primary) = some_primary(random, draft, haste) else {
+fn place_next(random: &mut Random, draft: &mut Draft, nodes: [&[usize]; 2], haste: u64) -> bool {
+    let Some(primary) = some_primary(random, draft, nodes[0], haste) else {
         return false;
     };
     draft.place_primary(primary);
-    let Some(backup) = some_backup(random, draft, haste) else {
+    let Some(backup) = some_backup(random, draft, nodes[1], haste) else {
         draft.withdraw_primary();
         return false;
     };
@@ -33,8 +39,8 @@ fn place_next(random: &mut Random, draft: &mut Draft, haste: u64) -> bool {
     true
 }
 
-fn some_primary(random: &mut Random, draft: &Draft, haste: u64) -> Option<Copy> {
-    from_random_node(random, draft, |random, node| {
+fn some_primary(random: &mut Random, draft: &Draft, nodes: &[usize], haste: u64) -> Option<Copy> {
+    from_random_node(random, nodes, |random, node| {
         let mut starts = draft.primary_starts(node);
         // Where backups have arrived too, links are strong.
         for link in draft.job.links_into(draft.task()) {
@@ -45,22 +51,21 @@ fn some_primary(random: &mut Random, draft: &Draft, haste: u64) -> Option<Copy> 
     })
 }
 
-fn some_backup(random: &mut Random, draft: &Draft, haste: u64) -> Option<Copy> {
-    from_random_node(random, draft, |random, node| {
+fn some_backup(random: &mut Random, draft: &Draft, nodes: &[usize], haste: u64) -> Option<Copy> {
+    from_random_node(random, nodes, |random, node| {
         let starts = draft.backup_starts(node).into_iter().collect();
         some_start(random, draft, haste, node, starts, &|copy| draft.backup_fits(copy))
     })
 }
 
-/// Asks all nodes in turn, the first of them at random.
+/// Asks all of the nodes in turn, the first of them at random.
 fn from_random_node(
     random: &mut Random,
-    draft: &Draft,
+    nodes: &[usize],
     ask: impl Fn(&mut Random, usize) -> Option<Copy>,
 ) -> Option<Copy> {
-    let nodes = draft.job.nodes.len();
-    let first = random.below(nodes);
-    (0..nodes).find_map(|step| ask(random, (first + step) % nodes))
+    let first = random.below(nodes.len());
+    (0..nodes.len()).find_map(|step| ask(random, nodes[(first + step) % nodes.len()]))
 }
 
 /// A fitting start: with some haste the first one, else a later one, or one with some slack.

@@ -11,6 +11,7 @@ use crate::earlier::{
 };
 use crate::files::{read_job, read_plan, write_plan, Job, Plan, MAX_GROUP, NEWEST, TASKS};
 use crate::forgetful::forgetful_plan;
+use crate::free_places;
 use crate::given::{some_room, Given};
 use crate::jobs::random_job;
 use crate::losses::{moments_after, try_losses, try_survival};
@@ -106,7 +107,7 @@ fn pair_losses(trial: &mut Trial, given: &Given, bytes: &[u8]) -> Result<(), Mis
 }
 
 /// Answers the planner's plan, if there is one.
-fn try_planner(
+pub fn try_planner(
     trial: &mut Trial,
     random: &mut Random,
     given: &Given,
@@ -137,6 +138,7 @@ fn count_planned(tally: &mut Tally, job: &Job, plan: &Plan) {
     tally.planned_version[job.version as usize - 1] += 1;
     tally.planned_newly += u64::from(!keeps_rule_e_of_01(job, plan));
     tally.planned_forgetfully += u64::from(has_send && forgetful_plan(job).as_ref() != Some(plan));
+    free_places::count_planned(tally, job, plan);
 }
 
 /// The planner's plan and others that keep the rules.
@@ -170,18 +172,19 @@ fn try_changes(
     Ok(())
 }
 
-fn try_plan(
+/// All calls on a plan. Answers the judge's result.
+pub fn try_plan(
     trial: &mut Trial,
     random: &mut Random,
     given: &Given,
     bytes: &[u8],
-) -> Result<(), Mismatch> {
+) -> Result<u64, Mismatch> {
     let code = try_judge(trial, given, bytes)?;
     trial.compare(&given.replay(bytes, None, given.replay_room()))?;
     try_replay_rooms(trial, random, given, bytes)?;
     try_rooms(trial, &mut random.aside(), given, bytes)?;
     let Ok(plan) = read_plan(&given.job, bytes) else {
-        return Ok(());
+        return Ok(code);
     };
     assert!(code == 0 || code & 0xff >= u64::from(SAME_NODE));
     count_replay(&mut trial.tally, &given.job, &plan);
@@ -195,7 +198,7 @@ fn try_plan(
         let passed = earlier.is_some_and(|job| judge(&job, &plan).is_ok());
         trial.tally.refused_by_send += u64::from(passed);
     }
-    Ok(())
+    Ok(code)
 }
 
 fn count_passed(tally: &mut Tally, job: &Job, plan: &Plan) {

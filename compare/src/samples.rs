@@ -1,10 +1,11 @@
 //! The samples of document 01, starred or not, sample 8 as request (i) of document 02 changes it;
-//! samples for request (ii), and those for requests (iii) to (vi), which have files of their own.
+//! samples for request (ii), and those for requests (iii) to (vii), which have files of their own.
 
 use crate::asked_samples;
 use crate::console::{plan_bytes, replay_bytes, Console};
 use crate::files::{write_job, write_plan, Job, Link, Node, Place, Plan, Row, Task, MAX_TIME};
 use crate::group_samples;
+use crate::order_samples;
 use crate::refusal::{
     code_of, describe, Refusal, COMMON_LOSS, COUNT, EARLY, NO_BACKUP, NO_PRIMARY, OVERLAP,
     SAME_NODE, SHORT, TOO_SOON, VALUE, VERSION,
@@ -152,15 +153,15 @@ impl Check<'_> {
         self.plan_replayed(sample, job, SAMPLE_1, loss, expected);
     }
 
-    pub fn plan_replayed(
+    pub fn plan_replayed<const N: usize>(
         &mut self,
         sample: &str,
         job: &Job,
-        rows: [Listed; 2],
+        rows: [Listed; N],
         loss: Option<Loss>,
-        expected: [Written; 2],
+        expected: [Written; N],
     ) {
-        let mut out = vec![FILL; replay_bytes(2) + SPARE];
+        let mut out = vec![FILL; replay_bytes(N) + SPARE];
         let got = (self.console.replay)(&write_job(job), &bytes_of(rows), loss, &mut out);
         self.expect(sample, got, Ok(()));
         let numbers = expected.iter().flatten().flat_map(|number| number.to_le_bytes());
@@ -199,6 +200,7 @@ pub fn run(console: &Console) -> (usize, Vec<String>) {
     sent_samples::run(&mut check);
     set_samples::run(&mut check);
     group_samples::run(&mut check);
+    order_samples::run(&mut check);
     (check.count, check.faults)
 }
 

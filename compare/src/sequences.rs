@@ -27,7 +27,12 @@ pub fn sequence(trial: &mut Trial, random: &mut Random) -> Result<(), Mismatch> 
     let Some((job, plan, planned)) = (0..3).find_map(|_| some_pair(random)) else {
         return Ok(());
     };
-    let mut held = Held::new(trial, job, plan, planned)?;
+    let held = Held::new(trial, job, plan, planned)?;
+    sequence_on(trial, random, held)
+}
+
+/// The same from a pair that passes.
+pub fn sequence_on(trial: &mut Trial, random: &mut Random, mut held: Held) -> Result<(), Mismatch> {
     let mut asked = Vec::new();
     for _ in 0..random.between(1, 5) {
         step(trial, random, &mut held, &mut asked)?;

@@ -7,6 +7,7 @@ use crate::fault_sets::fault_sets;
 use crate::files::{read_plan, Job};
 use crate::gathering::Gathering;
 use crate::given::{some_room, Given};
+use crate::order_of_time;
 use crate::random::Random;
 use crate::refusal::{number_of, EARLY, LATE, PRIMARY_UNFED, SAME_NODE, TOO_SOON};
 use crate::rules::{layout, FaultSet};
@@ -47,6 +48,7 @@ pub fn try_judge(trial: &mut Trial, given: &Given, bytes: &[u8]) -> Result<u64, 
     trial.tally.sets_by_send += u64::from(earlier.is_some_and(changed));
     count(&mut trial.tally, &sets, &gathering, judged);
     count_judged(&mut trial.tally, &given.job, &plan, judged);
+    order_of_time::count_judged(&mut trial.tally, given.job.nodes.len(), &placed, &sets, judged);
     Ok(judged)
 }
 

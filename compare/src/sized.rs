@@ -5,7 +5,8 @@ use crate::bookings::write_description;
 use crate::console::plan_bytes;
 use crate::descriptions::roomy_task;
 use crate::files::{
-    read_job, write_job, Job, Link, Node, Task, GROUP, MAX_TIME, READY, SEND, TASKS,
+    read_job, write_job, write_plan, Job, Link, Node, Place, Plan, Row, Task, GROUP, MAX_TIME,
+    READY, SEND, TASKS,
 };
 use crate::foreign::PLAIN;
 use crate::random::Random;
@@ -22,7 +23,7 @@ pub struct PlannedJob {
     pub tasks: usize,
     pub links: usize,
     pub job: Vec<u8>,
-    /// The planner's plan.
+    /// The planner's plan, or one by hand.
     pub plan: Vec<u8>,
     pub loss: Loss,
 }
@@ -37,11 +38,38 @@ pub fn planned(version: u64, nodes: usize, tasks: usize, links: usize) -> Planne
     });
     let (listed, job) = planned.expect("such jobs are planned more often than not");
     assert_eq!((PLAIN.judge)(&job, &plan), 0);
-    // The group of task 0's primary, lost while that runs: much has to be caught up with.
-    let number = |at: usize| u32::from_le_bytes([0, 1, 2, 3].map(|byte| plan[at + byte]));
-    let group = listed.nodes[number(8) as usize].group as u32;
-    let loss = Loss { group, moment: number(12) + 3 };
+    let loss = loss_of_first(&listed, &plan);
     PlannedJob { nodes, tasks, links, job, plan, loss }
+}
+
+/// The group of task 0's primary, lost while that runs: mostly much has to be caught up with.
+fn loss_of_first(job: &Job, plan: &[u8]) -> Loss {
+    let number = |at: usize| u32::from_le_bytes([0, 1, 2, 3].map(|byte| plan[at + byte]));
+    let group = job.nodes[number(8) as usize].group as u32;
+    Loss { group, moment: number(12) + 3 }
+}
+
+/// A job of 64 tasks on two nodes, without links, and a plan by hand: all primaries on one node and
+/// all backups on one, which may be the same. No two overlap. The last task comes first, so that in
+/// order of time each copy goes before those of lower tasks.
+pub fn crowded_on(primaries: usize, backups: usize) -> PlannedJob {
+    let (nodes, tasks, links) = (2, TASKS.1 as usize, 0);
+    let listed = sized_job(&mut Random::new(0), 1, nodes, tasks, links);
+    let mut places = [Vec::new(), Vec::new()];
+    let mut start = 0;
+    for (node, places) in [primaries, backups].into_iter().zip(&mut places) {
+        for task in listed.tasks.iter().rev() {
+            places.insert(0, Place { node, start });
+            start += task.run[node];
+        }
+        start += listed.nodes[node].detect;
+    }
+    let [primaries, backups] = places;
+    let rows = primaries.into_iter().zip(backups);
+    let rows = rows.map(|(primary, backup)| Row { primary, backup }).collect();
+    let plan = write_plan(&Plan { rows });
+    let loss = loss_of_first(&listed, &plan);
+    PlannedJob { nodes, tasks, links, job: write_job(&listed), plan, loss }
 }
 
 /// A planned job, and a task to ask for and to book beside its plan.

@@ -97,6 +97,22 @@ pub struct Tally {
     pub lost_beyond: u64,
     pub asked_by_group: u64,
     pub sets_by_group: u64,
+    pub passed_by_neighbours: u64,
+    pub named_by_time: u64,
+    pub named_by_finish: u64,
+    pub named_with_lost: u64,
+    pub begun_alike: u64,
+    pub begun_unlike: u64,
+    pub planned_into_gap: u64,
+    pub planned_behind: u64,
+    pub planned_stopped: u64,
+    pub planned_by_neighbours: u64,
+    pub planned_with_lost: u64,
+    pub asked_into_gap: u64,
+    pub one_node: u64,
+    pub one_node_full: u64,
+    pub two_nodes_passed: u64,
+    pub two_nodes_refused: u64,
 }
 
 /// Something counted: how often it was met, in words, and how often a run of the default count has
@@ -161,6 +177,7 @@ impl Tally {
         let counts = counts.into_iter().chain(self.version_counts());
         let counts = counts.chain(self.sequence_counts()).chain(self.send_counts());
         let counts = counts.chain(self.set_counts()).chain(self.group_counts());
+        let counts = counts.chain(self.order_counts()).chain(self.crowd_counts());
         counts.map(|(met, least, words)| Count { met, words, least })
     }
 
@@ -246,6 +263,34 @@ impl Tally {
             (self.lost_beyond, 25_000, "losses replayed of a group not below the node count"),
             (self.asked_by_group, 150, "asked places that the drawers moved"),
             (self.sets_by_group, 15_000, "plans whose sets are others by nodes"),
+        ]
+    }
+
+    /// Request (vii): where a wrong way to keep or to read the order of time answers otherwise.
+    fn order_counts(&self) -> [(u64, u64, &'static str); 12] {
+        [
+            (self.passed_by_neighbours, 350, "plans refused 14 that pass by neighbours in time"),
+            (self.named_by_time, 400, "plans refused 14 for others than the first in time"),
+            (self.named_by_finish, 130, "plans refused 14 otherwise if finishes rose with starts"),
+            (self.named_with_lost, 2_000, "plans refused 14 otherwise with a lost equal start"),
+            (self.begun_alike, 4_000, "passed plans with two backups at one start of a node"),
+            (self.begun_unlike, 4_000, "plans with a primary and a backup at one start of a node"),
+            (self.planned_into_gap, 1_500, "planned jobs with a copy before one placed earlier"),
+            (self.planned_behind, 1_500, "planned jobs that places behind the last would move"),
+            (self.planned_stopped, 900, "planned jobs that an early end of the search would move"),
+            (self.planned_by_neighbours, 70, "planned jobs that gaps of neighbours would move"),
+            (self.planned_with_lost, 80, "planned jobs that a lost equal start would move"),
+            (self.asked_into_gap, 1_800, "asked places before a copy held, after a commit"),
+        ]
+    }
+
+    /// Request (vii): the most that a node can hold.
+    fn crowd_counts(&self) -> [(u64, u64, &'static str); 4] {
+        [
+            (self.one_node, 100, "plans with all copies on one node"),
+            (self.one_node_full, 40, "plans with 128 copies on one node"),
+            (self.two_nodes_passed, 20, "passed plans with 64 copies on each of two nodes"),
+            (self.two_nodes_refused, 40, "plans refused 14 with 64 copies on each of two nodes"),
         ]
     }
 }

@@ -7,7 +7,8 @@ use std::{env, fs};
 
 use compare::console::{plan_bytes, replay_bytes, Console, Places};
 use compare::foreign::{LIBRARY, PLAIN, TUNED};
-use compare::sized::{asked, planned, AskedJob, PlannedJob};
+use compare::refusal::{Refusal, SAME_NODE, SHORT};
+use compare::sized::{asked, crowded_on, planned, AskedJob, PlannedJob};
 
 const DEFAULT_ROUNDS: usize = 2001;
 
@@ -26,6 +27,10 @@ struct Case {
     name: &'static str,
     sized: PlannedJob,
     asked: AskedJob,
+    /// Whether this work is timed.
+    is_timed: fn(Work) -> bool,
+    /// The judge's answer.
+    judged: u64,
 }
 
 #[derive(Clone, Copy)]
@@ -76,7 +81,7 @@ fn main() -> ExitCode {
     };
     print_head(rounds);
     for case in cases() {
-        for (work, name) in WORKS {
+        for (work, name) in WORKS.into_iter().filter(|&(work, _)| (case.is_timed)(work)) {
             if !same_answers(&case, work) {
                 println!("{}, {name}: the sides differ", case.name);
                 return ExitCode::FAILURE;
@@ -135,13 +140,31 @@ fn cases() -> Vec<Case> {
     cases.push(case("maximum, version 3", 3, 16, 64, 512));
     // Nodes are in drawers of two, and a drawer is lost.
     cases.push(case("maximum, version 4", 4, 16, 64, 512));
+    // As many copies on a node as can be: 64 where the plan passes, 128 where it reads well.
+    cases.push(case("two nodes", 1, 2, 64, 0));
+    cases.push(Case {
+        sized: crowded_on(0, 1),
+        is_timed: |work| matches!(work, Work::Judge),
+        ..case("one node each", 1, 2, 64, 0)
+    });
+    cases.push(Case {
+        sized: crowded_on(0, 0),
+        is_timed: is_for_any_plan,
+        judged: Refusal::of_task(SAME_NODE, 0).code(),
+        ..case("all on one node", 1, 2, 64, 0)
+    });
     cases
 }
 
 fn case(name: &'static str, version: u64, nodes: usize, tasks: usize, links: usize) -> Case {
     let (sized, asked) =
         (planned(version, nodes, tasks, links), asked(version, nodes, tasks, links));
-    Case { name, sized, asked }
+    Case { name, sized, asked, is_timed: |_| true, judged: 0 }
+}
+
+/// The works on a plan that the judge refuses, its own among them.
+fn is_for_any_plan(work: Work) -> bool {
+    matches!(work, Work::Judge | Work::Replay | Work::ReplayLoss | Work::FaultSets)
 }
 
 fn call(console: &Console, case: &Case, work: Work, out: &mut Output) -> u64 {
@@ -173,7 +196,11 @@ fn output(case: &Case) -> Output {
 
 /// All sides do the same work, or the times say nothing.
 fn same_answers(case: &Case, work: Work) -> bool {
-    let expected = if matches!(work, Work::Reading) { 1 } else { 0 };
+    let expected = match work {
+        Work::Reading => Refusal::at(SHORT, 0).code(),
+        Work::Judge => case.judged,
+        _ => 0,
+    };
     let outputs = SIDES.map(|console| {
         let mut out = output(case);
         (call(&console, case, work, &mut out) == expected).then_some(out)

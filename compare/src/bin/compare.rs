@@ -10,13 +10,17 @@ use compare::random::Random;
 use compare::refusal::WORDS;
 use compare::tally::Tally;
 use compare::trial::{Mismatch, Trial};
-use compare::{entries, fills, rounds, sequences};
+use compare::{crowds, entries, fills, rounds, sequences};
 
 const DEFAULT_COUNT: u64 = 5_000;
 const DEFAULT_SEED: u64 = 1;
 
 /// So many jobs for each one that is filled with tasks, and one with links.
 const ROUNDS_A_FILL: u64 = 200;
+
+/// So many jobs for each one whose copies crowd on few nodes, and for each one with all on one.
+const ROUNDS_A_CROWD: u64 = 2;
+const ROUNDS_A_FULL_CROWD: u64 = 50;
 
 const USAGE: &str = "usage: compare [--count JOBS] [--seed NUMBER] [--out FOLDER] [--pair FOLDER]
                [--console library|plain|tuned|second]
@@ -93,8 +97,10 @@ fn try_random(trial: &mut Trial, options: &Options) -> Result<(), Mismatch> {
         "{} against second: {} jobs, seed {}",
         trial.console.name, options.count, options.seed
     );
-    // Two sources, so that the rounds of a seed are the same whatever the sequences draw.
+    // Three sources, so that the rounds of a seed are the same whatever the sequences draw, and the
+    // sequences whatever the crowds.
     let (mut random, mut other) = (Random::new(options.seed), Random::new(!options.seed));
+    let mut third = Random::new(options.seed ^ 1 << 63);
     for round in 0..options.count {
         rounds::round(trial, &mut random)?;
         sequences::sequence(trial, &mut other)?;
@@ -102,6 +108,12 @@ fn try_random(trial: &mut Trial, options: &Options) -> Result<(), Mismatch> {
             0 => fills::fill_tasks(trial, &mut other)?,
             1 => fills::fill_links(trial, &mut other)?,
             _ => {}
+        }
+        if round % ROUNDS_A_CROWD == 0 {
+            crowds::crowd(trial, &mut third)?;
+        }
+        if round % ROUNDS_A_FULL_CROWD == 0 {
+            crowds::crowd_fully(trial, &mut third)?;
         }
     }
     Ok(())

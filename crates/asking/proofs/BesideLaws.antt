@@ -1,5 +1,5 @@
 -- A new task beside a plan: the plan's copies are stored task by task, and the task is placed as the planner places it.
-use Prim.Native.Nat.{ℕ, _+_, _≤_, _<_}
+use Prim.Native.Nat.{ℕ, _+_, _*_, _≤_, _<_}
 use mathlib.Core.List.{List}
 use mathlib.Core.Path.{_≡_, sym, _∙_, ap, subst}
 use lib.ListN.{getD, replicate}
@@ -18,35 +18,48 @@ use Rattle.rules.specs.declared.Description.{Description}
 use Rattle.rules.specs.Description.{newLinks}
 use Rattle.rules.specs.Tables.{put}
 use Rattle.rules.specs.Copies.{copy, domain}
-use Rattle.rules.specs.Rules.{row, blankRow, plannedRow, rowsTo, faultSet}
+use Rattle.rules.specs.Rules.{Row, row, blankRow, plannedRow, rowsTo, faultSet}
 use Rattle.rules.specs.Planner.{placeTask, anywhere}
 use Rattle.rules.specs.Longer.{longerJob}
+use Rattle.rules.proofs.FaultSetLaws.{row-primary, row-backup}
 use Rattle.rules.proofs.TableLaws.{grow-start, grow-more}
 use Rattle.rules.proofs.LongerLaws.{task-old, task-new, longer-sound}
 use Rattle.copies.specs.declared.table.Copies.{Copies}
 use Rattle.copies.specs.Sets.{has}
+use Rattle.copies.specs.Layout.{copiesOn, spots, spotsOf, Laid}
 use Rattle.copies.specs.Table.{copyCount, rowOf, emptyCopies}
 use Rattle.copies.proofs.TableLaws.{same-row, empty-rows}
+use Rattle.copies.proofs.PlanLayout.{laid-copies}
 use Rattle.judge.proofs.TaskLaws.{copy-fits}
 use Rattle.planner.specs.declared.task.Pair.{Pair}
 use Rattle.planner.specs.declared.task.Placing.{Placing}
 use Rattle.planner.specs.declared.task.Want.{Want}
 use Rattle.planner.specs.Senders.{Into, Results, Sendable, Sent}
 use Rattle.planner.specs.Faults.{Peers}
-use Rattle.planner.specs.Tasks.{pairRow, attempted, wantOf, Wanted, Bookable, Booked, Departing, departed, ChainedUp}
+use Rattle.planner.specs.Tasks.{pairRow, attempted, wantOf, Wanted, Bookable, Booked, Departing, departed, Next}
 use Rattle.planner.proofs.KeepsLaws.{Found}
 use Rattle.planner.proofs.SenderLaws.{sendable}
 use Rattle.planner.proofs.SentLaws.{outOf, sent-into, into-few, into-sending, into-faults}
-use Rattle.planner.proofs.StoreLaws.{beside-start, pair-bookable, pair-departing, booked-row, booked-beside}
+use Rattle.planner.proofs.StoreLaws.{beside-start, pair-bookable, pair-departing, booked-row, pair-next, booked-beside}
 use Rattle.planner.proofs.WantLaws.{Told, asked, told}
 use Rattle.asking.specs.Calls.{Asking}
 use Rattle.asking.specs.Merge.{mergedLinks, Merged}
 use Rattle.asking.specs.Beside.{PlacesFit, Takeable, Taken, Storing, StoredTo, BesideTo, placeNew}
 
-book-start : (job : Job) (plan : Plan) (leave before last : List ℕ) → leave ≡ replicate copyCount 0 → before ≡ replicate copyCount 0
-    → last ≡ replicate maxNodes 0 → StoredTo job plan 0 emptyCopies leave before last
-book-start job plan leave before last o b l =
-    record { is = empty-rows ∙ sym (grow-start blankRow (plannedRow job plan)); beside = beside-start job leave before last o b l }
+book-start : (job : Job) (plan : Plan) (leave order count : List ℕ) → leave ≡ replicate copyCount 0 → order ≡ replicate spots 0
+    → count ≡ replicate maxNodes 0 → StoredTo job plan 0 emptyCopies leave order count
+book-start job plan leave order count o b l =
+    record { is = empty-rows ∙ sym (grow-start blankRow (plannedRow job plan)); beside = beside-start job leave order count o b l }
+
+-- what is stored stands as the plan has it, in order of time
+pub stored-copies : (job : Job) (plan : Plan) (m : ℕ) (cs : Copies) (leave order count : List ℕ) → StoredTo job plan m cs leave order count
+    → (n : ℕ) → n < maxNodes → spotsOf order count n ≡ copiesOn plan m n
+unfolding rowOf
+stored-copies job plan m cs leave order count so-far n rack =
+    laid-copies plan m n job cs order count
+    (λ i p. ap (λ (f : ℕ → Row). f i .primary) (so-far .is) ∙ row-primary job plan m i p)
+    (λ i p. ap (λ (f : ℕ → Row). f i .backup) (so-far .is) ∙ row-backup job plan m i p)
+    (so-far .beside .laid) rack
 
 -- task j of the first n
 module _ (job : Job) (plan : Plan) (into next from delay : List ℕ) (n : ℕ) (can : Storing job plan into next from delay n) (j : ℕ) (below : j < n) where
@@ -66,13 +79,13 @@ module _ (job : Job) (plan : Plan) (into next from delay : List ℕ) (n : ℕ) (
   by-links : Into job next from delay j (getD into j 0)
   by-links = sent-into job _ _ _ _ (can .sent) j (omega (arith, task-of, can .sound .tasks-most))
 
-  module _ (cs : Copies) (leave before last : List ℕ) (so-far : StoredTo job plan j cs leave before last) where
+  module _ (cs : Copies) (leave order count : List ℕ) (so-far : StoredTo job plan j cs leave order count) where
     pub takeable : Takeable next from delay (outOf cs leave) (getD into j 0) (task job j) (place plan j) own
     takeable =
         record {
           primary = copy-fits job (can .sound) j _ _ task-of (fit .primary-node) (fit .primary-start);
           backup = copy-fits job (can .sound) j _ _ task-of (fit .backup-node) (fit .backup-start);
-          sending = into-sending job _ _ _ j _ by-links (can .sound) j cs leave before last (so-far .beside);
+          sending = into-sending job _ _ _ j _ by-links (can .sound) j cs leave order count (so-far .beside);
           group-most = can .sound .group-most _ (fit .primary-node);
         }
 
@@ -95,10 +108,10 @@ module _ (job : Job) (plan : Plan) (into next from delay : List ℕ) (n : ℕ) (
           (x .primary) own (x .set) (sym (ap (λ c. group job (c .node)) (taken .primary))) (taken .set))
 
       pub bookable : Bookable cs j x
-      bookable = pair-bookable job j cs leave before last (can .sound) (so-far .beside) task-of x
+      bookable = pair-bookable job j cs leave order count (can .sound) (so-far .beside) task-of x
 
       pub departing : Departing (job .nodes) j x
-      departing = pair-departing job j cs leave before last (can .sound) (so-far .beside) task-of x p-found q-found
+      departing = pair-departing job j cs leave order count (can .sound) (so-far .beside) task-of x p-found q-found
 
       planned-row : pairRow x ≡ plannedRow job plan (rowOf cs) j
       unfolding plannedRow row copy
@@ -111,13 +124,16 @@ module _ (job : Job) (plan : Plan) (into next from delay : List ℕ) (n : ℕ) (
           ∙ ap (λ t. put t j (plannedRow job plan t j)) (so-far .is)
           ∙ rw add-one (sym (grow-more blankRow (plannedRow job plan) j))
 
-      pub book-more : (r : Copies) → Booked j x cs r → (leave' before' last' : List ℕ) → leave' ≡ departed (job .nodes) j x leave
-          → ChainedUp j x last before last' before' → StoredTo job plan (j + 1) r leave' before' last'
-      book-more r b leave' before' last' gone up =
+      pub book-next : (r : Copies) → Booked j x cs r → Next (r .node) (r .start) j order count
+      book-next r b = pair-next job j cs leave order count (can .sound) (so-far .beside) task-of x p-found q-found faults-are r b
+
+      pub book-more : (r : Copies) → Booked j x cs r → (leave' order' count' : List ℕ) → leave' ≡ departed (job .nodes) j x leave
+          → Laid (r .node) (r .start) (2 * (j + 1)) order' count' → StoredTo job plan (j + 1) r leave' order' count'
+      book-more r b leave' order' count' gone laid =
           record {
             is = booked-row j x cs r b ∙ next-rows;
-            beside = booked-beside job j cs leave before last (can .sound) (so-far .beside) task-of x p-found q-found faults-are r b
-                leave' before' last' gone up;
+            beside = booked-beside job j cs leave order count (can .sound) (so-far .beside) task-of x p-found q-found faults-are r b
+                leave' order' count' gone laid;
           }
 
 -- the same for another task that is the same one
@@ -156,21 +172,21 @@ module _ (job : Job) (plan : Plan) (d : Description) where
         subst (λ t. SoundPlace (nodes job) (t .run) (place plan j)) (sym (task-old job d (ok .room) j p)) (place-of job plan (ok .planned) j p)
 
     pub beside-none : (into next from delay : List ℕ) → Sent list (links job + newLinks d) into next from delay
-        → (leave before last : List ℕ) → leave ≡ replicate copyCount 0 → before ≡ replicate copyCount 0 → last ≡ replicate maxNodes 0
-        → BesideTo job plan d into next from delay 0 emptyCopies leave before last
+        → (leave order count : List ℕ) → leave ≡ replicate copyCount 0 → order ≡ replicate spots 0 → count ≡ replicate maxNodes 0
+        → BesideTo job plan d into next from delay 0 emptyCopies leave order count
     unfolding longerJob
-    beside-none into next from delay sent leave before last o b l =
+    beside-none into next from delay sent leave order count o b l =
         let big-sent = subst (λ l. Sent l (links job + newLinks d) into next from delay) links-are sent in
         record {
           asking = ok;
           storing = record { sound = big-sound; sent = big-sent; within = omega (arith, new-of); fit = fit-new };
-          stored = book-start big plan leave before last o b l;
+          stored = book-start big plan leave order count o b l;
           within = omega arith;
         }
 
   -- and its first j tasks stored
-  module _ (into next from delay : List ℕ) (j : ℕ) (cs : Copies) (leave before last : List ℕ)
-      (so-far : BesideTo job plan d into next from delay j cs leave before last) where
+  module _ (into next from delay : List ℕ) (j : ℕ) (cs : Copies) (leave order count : List ℕ)
+      (so-far : BesideTo job plan d into next from delay j cs leave order count) where
     abbrev can : Storing big plan into next from delay (tasks job)
     can = so-far .storing
 
@@ -189,7 +205,7 @@ module _ (job : Job) (plan : Plan) (d : Description) where
 
       pub old-takeable : Takeable next from delay (outOf cs leave) (getD into j 0) (task job j) (place plan j) its
       unfolding longerJob
-      old-takeable = takeable-as _ _ _ _ _ _ _ same-task _ _ (takeable big plan _ _ _ _ _ can j below cs leave before last (so-far .stored))
+      old-takeable = takeable-as _ _ _ _ _ _ _ same-task _ _ (takeable big plan _ _ _ _ _ can j below cs leave order count (so-far .stored))
 
       module _ (x : Pair) (taken : Taken next from delay (outOf cs leave) (getD into j 0) (task job j) (place plan j) its x) where
         big-taken : Taken next from delay (outOf cs leave) (getD into j 0) (task big j) (place plan j) its x
@@ -197,30 +213,34 @@ module _ (job : Job) (plan : Plan) (d : Description) where
 
         pub old-bookable : Bookable cs j x
         unfolding longerJob
-        old-bookable = bookable big plan _ _ _ _ _ can j below cs leave before last (so-far .stored) x big-taken
+        old-bookable = bookable big plan _ _ _ _ _ can j below cs leave order count (so-far .stored) x big-taken
 
         pub old-departing : Departing (job .nodes) j x
         unfolding longerJob
-        old-departing = departing big plan _ _ _ _ _ can j below cs leave before last (so-far .stored) x big-taken
+        old-departing = departing big plan _ _ _ _ _ can j below cs leave order count (so-far .stored) x big-taken
 
-        pub old-more : (r : Copies) → Booked j x cs r → (leave' before' last' : List ℕ) → leave' ≡ departed (job .nodes) j x leave
-            → ChainedUp j x last before last' before' → BesideTo job plan d into next from delay (j + 1) r leave' before' last'
+        pub old-next : (r : Copies) → Booked j x cs r → Next (r .node) (r .start) j order count
         unfolding longerJob
-        old-more r b leave' before' last' gone up =
+        old-next r b = book-next big plan _ _ _ _ _ can j below cs leave order count (so-far .stored) x big-taken r b
+
+        pub old-more : (r : Copies) → Booked j x cs r → (leave' order' count' : List ℕ) → leave' ≡ departed (job .nodes) j x leave
+            → Laid (r .node) (r .start) (2 * (j + 1)) order' count' → BesideTo job plan d into next from delay (j + 1) r leave' order' count'
+        unfolding longerJob
+        old-more r b leave' order' count' gone laid =
             record {
               asking = so-far .asking;
               storing = can;
-              stored = book-more big plan _ _ _ _ _ can j below cs leave before last (so-far .stored) x big-taken r b leave' before' last' gone up;
+              stored = book-more big plan _ _ _ _ _ can j below cs leave order count (so-far .stored) x big-taken r b leave' order' count' gone laid;
               within = omega (arith, below);
             }
 
     -- the new task, beside all of the plan
     module _ (all : tasks job ≤ j) (peers : List ℕ) (by-group : Peers (job .nodes) (nodes job) peers) (want : Want)
         (asks : want ≡ wantOf (tasks job) (d .task) (job .nodes) (nodes job) (getD into (tasks job) 0)) where
-      stored : StoredTo big plan (tasks job) cs leave before last
+      stored : StoredTo big plan (tasks job) cs leave order count
       stored =
           let e : j ≡ tasks job = omega (arith, all, so-far .within) in
-          subst (λ m. StoredTo big plan m cs leave before last) e (so-far .stored)
+          subst (λ m. StoredTo big plan m cs leave order count) e (so-far .stored)
 
       want-is : want ≡ wantOf (tasks job) (task big (tasks job)) (big .nodes) (nodes big) (getD into (tasks job) 0)
       unfolding longerJob
@@ -230,10 +250,10 @@ module _ (job : Job) (plan : Plan) (d : Description) where
       unfolding longerJob
       big-peers = by-group
 
-      pub new-wanted : Wanted next from delay cs leave before last peers want
+      pub new-wanted : Wanted next from delay cs leave order count peers want
       new-wanted = asked big into _ _ _ _ _ _ _ _ (can .sound) (can .sent) (stored .beside) new-of peers big-peers want want-is
 
-      pub new-told : (a : Placing) → Told next from delay cs leave before last peers want a → attempted a ≡ placeNew job plan d
+      pub new-told : (a : Placing) → Told next from delay cs leave order count peers want a → attempted a ≡ placeNew job plan d
       new-told a f =
           told big into _ _ _ _ _ _ _ _ (can .sound) (can .sent) (stored .beside) new-of peers big-peers want want-is a f
           ∙ ap (λ t. placeTask big (anywhere (tasks job)) (tasks job) t (tasks job)) (stored .is)

@@ -48,16 +48,16 @@ pub record Storing (job : Job) (plan : Plan) (into next from delay : List ℕ) (
   pub fit : PlacesFit job plan n
 
 -- the table has their rows, and the planner can place a task beside it
-pub record StoredTo (job : Job) (plan : Plan) (n : ℕ) (cs : Copies) (leave before last : List ℕ) : Type 0 where
+pub record StoredTo (job : Job) (plan : Plan) (n : ℕ) (cs : Copies) (leave order count : List ℕ) : Type 0 where
   pub is : rowOf cs ≡ rowsTo job plan n
-  pub beside : Beside job n cs leave before last
+  pub beside : Beside job n cs leave order count
 
 -- where the tasks of a plan are stored one by one: of the job with the new task, the links stand by receiver and the first j tasks in the table
-pub record BesideTo (job : Job) (plan : Plan) (d : Description) (into next from delay : List ℕ) (j : ℕ) (cs : Copies) (leave before last : List ℕ)
+pub record BesideTo (job : Job) (plan : Plan) (d : Description) (into next from delay : List ℕ) (j : ℕ) (cs : Copies) (leave order count : List ℕ)
     : Type 0 where
   pub asking : Asking job plan d
   pub storing : Storing (longerJob job d) plan into next from delay (tasks job)
-  pub stored : StoredTo (longerJob job d) plan j cs leave before last
+  pub stored : StoredTo (longerJob job d) plan j cs leave order count
   pub within : j ≤ tasks job
 
 -- the planner's step for the longer job's last task, beside the plan

@@ -9,7 +9,7 @@ use planner::task::Pair;
 use planner::task::Placing;
 use planner::task::Want;
 use planner::task::book;
-use planner::task::chain_up;
+use planner::task::lay_both;
 use planner::task::place_task;
 use planner::task::send_off;
 use reader::job::Job;
@@ -42,8 +42,10 @@ fn pair_at<'l, 'c>(
     ensures { λ r. ⌜ Taken (now (next .entry)) (now (from .entry)) (now (delay .entry))
         (results (now (node .entry)) (now (finish .entry)) (now (leave .entry)) (now (sets .entry))) into task place (own .group) r ⌝ }
 {
-    let p = copy_of(task, place.primary_node, place.primary_start);
-    let b = copy_of(task, place.backup_node, place.backup_start);
+    let q = place.primary_node as usize;
+    let r = place.backup_node as usize;
+    let p = copy_of(place.primary_node, place.primary_start, task.run[q]);
+    let b = copy_of(place.backup_node, place.backup_start, task.run[r]);
     let group = own.group;
     let set = fault_set(next, from, delay, node, finish, leave, sets, into, p, group);
     Pair {
@@ -75,8 +77,8 @@ pub fn place_new(job: Job, plan: Plan, d: Description) -> Placing
     let mut to = [0u32; Copies::COUNT];
     let mut off = [0u32; Copies::COUNT];
     let mut set = [0u32; Copies::COUNT];
-    let mut up = [0usize; Copies::COUNT];
-    let mut hi = [0usize; Job::MAX_NODES];
+    let mut ln = [0u8; Copies::SPOTS];
+    let mut no = [0usize; Job::MAX_NODES];
     let n = job.task_count as usize;
     let tasks = job.tasks;
     let nodes = job.nodes;
@@ -90,12 +92,12 @@ pub fn place_new(job: Job, plan: Plan, d: Description) -> Placing
         let pair = pair_at(&nx, &by, &lag, &on, &to, &off, &set, at, task, place, own);
         book(&mut on, &mut go, &mut to, &mut set, j, pair);
         send_off(&mut off, nodes, j, pair);
-        chain_up(&mut up, &mut hi, j, pair);
+        lay_both(&on, &go, &mut ln, &mut no, j);
         j += 1;
     }
     let count = job.node_count as usize;
     let mut kin = [0u32; Copies::COUNT];
     by_group(nodes, count, &mut kin);
     let w = Want::of(n, d.task, nodes, count, into[n] as usize);
-    place_task(&nx, &by, &lag, &on, &go, &to, &off, &set, &up, &hi, &kin, w)
+    place_task(&nx, &by, &lag, &on, &go, &to, &off, &set, &ln, &no, &kin, w)
 }

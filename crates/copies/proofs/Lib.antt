@@ -4,6 +4,10 @@ pub mod MemberLaws
 pub mod TableLaws
 pub mod ArrivalLaws
 pub mod ChainLaws
+pub mod TimelineLaws
+pub mod SpotLaws
+pub mod LayoutLaws
+pub mod PlanLayout
 pub mod ClashLaws
 pub mod GatherLaws
 pub mod NumberLaws

@@ -1,9 +1,10 @@
 -- Laws of the table: what is stored, the rows of the empty table, and fault sets with a common member.
-use Prim.Native.Nat.{ℕ, _+_, _*_, _<_}
+use Prim.Native.Nat.{ℕ, _+_, _*_, _/_, _<_}
 use mathlib.Core.Bool.{Bool}
-use mathlib.Core.Path.{_≡_, _∙_, ap, fun-ext, subst}
+use mathlib.Core.Path.{_≡_, refl, _∙_, ap, fun-ext, subst}
 use lib.ListN.{set, length-set}
 use lib.Seq.{getD-set-same, getD-set-other}
+use native.Mathlib.Decide.{decLt}
 use native.Mathlib.Omega.{arith}
 use Rattle.reader.specs.declared.job.Job.{Job}
 use Rattle.reader.specs.Tests.{_and_}
@@ -24,6 +25,17 @@ same-copy a b c x y z p q r = rw (p, q, r)
 pub same-row : (a b c d : Copy) (f g : ℕ → Bool) → a ≡ b → c ≡ d → f ≡ g
     → _≡_ {A = Row} (record { primary = a; backup = c; faults = f }) (record { primary = b; backup = d; faults = g })
 same-row a b c d f g p q r = rw (p, q, r)
+
+-- what holds at both entries of task j holds at each of its entries; and so of the first n tasks
+pub halves : (P : ℕ → Type 0) (j : ℕ) → P (2 * j) → P (2 * j + 1) → (k : ℕ) → k / 2 ≡ j → P k
+halves P j primary backup k h =
+    elim (decLt (2 * j) k) [
+      | yes q ↦ let e : 2 * j + 1 ≡ k = omega arith in subst P e backup
+      | no q ↦ let e : 2 * j ≡ k = omega arith in subst P e primary
+    ]
+
+pub each-entry : (P : ℕ → Type 0) (n : ℕ) → ((j : ℕ) → j < n → P (2 * j)) → ((j : ℕ) → j < n → P (2 * j + 1)) → (k : ℕ) → k < 2 * n → P k
+each-entry P n primary backup k p = halves P (k / 2) (primary (k / 2) (omega arith)) (backup (k / 2) (omega arith)) k refl
 
 -- the four stores
 module _ (cs : Copies) (whole : Whole cs) (k : ℕ) (c : Copy) (z : ℕ) (p : k < copyCount) where

@@ -20,9 +20,12 @@ copyCount = 2 * maxTasks
 abbrev pub table : List ℕ → List ℕ → List ℕ → List ℕ → Copies
 table node start finish sets = record { node = node; start = start; finish = finish; set = sets }
 
--- the node of entry k
+-- the node of entry k, and its start
 abbrev pub nodeAt : List ℕ → ℕ → ℕ
 nodeAt node k = getD node k 0
+
+abbrev pub startAt : List ℕ → ℕ → ℕ
+startAt start k = getD start k 0
 
 -- entry k, and its set
 abbrev pub entry : Copies → ℕ → Copy

@@ -18,6 +18,9 @@ pub struct Copies {
 impl Copies {
     // Two for each task.
     pub const COUNT: usize = 2 * Job::MAX_TASKS;
+
+    // Of the layout: room for all of them on each node.
+    pub const SPOTS: usize = Job::MAX_NODES * Copies::COUNT;
 }
 
 // Stores entry k.

@@ -6,6 +6,9 @@ pub mod TaskLaws
 pub mod LinkLaws
 pub mod BackupLaws
 pub mod GatherLaws
+pub mod SweepLaws
+pub mod PairLaws
 pub mod OverlapLaws
 pub mod PlanLaws
 pub mod NumberLaws
+pub mod PlanCopies

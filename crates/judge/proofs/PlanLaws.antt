@@ -1,11 +1,10 @@
 -- From the passes to the judge: the table's rows are the plan's, and its answers the judge's.
-use Prim.Native.Nat.{ℕ, zero, suc, _+_, _*_, _/_, _≤_, _<_}
+use Prim.Native.Nat.{ℕ, zero, suc, _+_, _*_, _≤_, _<_}
 use mathlib.Core.Bool.{true, false}
 use mathlib.Core.List.{List, []}
 use mathlib.Core.Logic.{_⊎_, ⊎-elim}
 use mathlib.Core.Option.{Option, none}
 use mathlib.Core.Path.{_≡_, refl, sym, _∙_, ap, ap₂, subst, fun-ext}
-use native.Mathlib.Decide.{decLt}
 use native.Mathlib.Nat.{not-suc-le-zero}
 use native.Mathlib.Omega.{arith}
 use lib.ListN.{getD}
@@ -38,7 +37,7 @@ use Rattle.copies.specs.Arrival.{leaveOf, Leaving}
 use Rattle.copies.specs.Table.{table, entry, rowOf, Held}
 use Rattle.copies.specs.Gathered.{weakLink, SetsTo}
 use Rattle.copies.proofs.SetLaws.{has-none, has-one}
-use Rattle.copies.proofs.TableLaws.{same-row}
+use Rattle.copies.proofs.TableLaws.{each-entry, same-row}
 use Rattle.copies.proofs.GatherLaws.{all-gathered}
 use Rattle.copies.proofs.ArrivalLaws.{backup-fed, result-is}
 use Rattle.judge.specs.Parts.{byTasks, byLinks, byBackups, byFaults}
@@ -53,14 +52,6 @@ use Rattle.judge.proofs.PartLaws.{breach-parts, links-same, backups-sam
 use Rattle.judge.proofs.TaskLaws.{placeable}
 use Rattle.judge.proofs.LinkLaws.{isStrong}
 use Rattle.judge.proofs.OverlapLaws.{pairs-are}
-
--- what holds at both entries of each task holds at every entry
-entries : (P : ℕ → Type 0) (n : ℕ) → ((j : ℕ) → j < n → P (2 * j)) → ((j : ℕ) → j < n → P (2 * j + 1)) → (k : ℕ) → k < 2 * n → P k
-entries P n even odd k p =
-    elim (decLt (2 * (k / 2)) k) [
-      | yes q ↦ let e : 2 * (k / 2) + 1 ≡ k = omega arith in subst P e (odd (k / 2) (omega arith))
-      | no q ↦ let e : 2 * (k / 2) ≡ k = omega arith in subst P e (even (k / 2) (omega arith))
-    ]
 
 -- a copy on a node of the job, that lasts, and with a finish that a sum can take
 record Able (job : Job) (c : Copy) : Type 0 where
@@ -91,7 +82,7 @@ module _ (job : Job) (plan : Plan) (sound : Sound job) (reads : PlanSound job pl
   module _ (cs : Copies) (copied : Copied job plan (tasks job) (entry cs)) where
     entry-able : (k : ℕ) → k < 2 * tasks job → Able job (entry cs k)
     entry-able =
-        entries (λ k. Able job (entry cs k)) (tasks job)
+        each-entry (λ k. Able job (entry cs k)) (tasks job)
         (λ j p. subst (Able job) (sym (copied .primary j p ∙ row-primary job plan (tasks job) j p))
         (able j _ _ (reads .primary-node j p) (reads .primary-able j p) (placeable job plan sound reads .primary j p)))
         (λ j p. subst (Able job) (sym (copied .backup j p ∙ row-backup job plan (tasks job) j p))

@@ -13,26 +13,26 @@ use reader::refusal::Answer;
 use reader::refusal::Refusal;
 use rules::Copy;
 ghost use mathlib.Core.Path.{_≡_};
-ghost use Prim.Native.Nat.{_<_};
+ghost use Prim.Native.Nat.{_+_, _≤_};
 ghost use lib.ListN.{replicate};
 ghost use Rattle.reader.specs.declared.job.Job.{Job};
 ghost use Rattle.reader.specs.declared.refusal.Refusal.the-variants.{SameNode, TooSoon, Early, Late};
 ghost use Rattle.reader.specs.First.{_or-else_};
-ghost use Rattle.reader.specs.Limits.{maxNodes};
+ghost use Rattle.reader.specs.Limits.{maxStart, maxTime};
 ghost use Rattle.reader.specs.Refusals.{answered};
 ghost use Rattle.copies.specs.Table.{copyCount, table, Whole};
 ghost use Rattle.judge.specs.Notes.{seen};
-ghost use Rattle.judge.specs.Tasks.{CopyFits, copyOn, tasked, Placeable, TasksJudged};
+ghost use Rattle.judge.specs.Tasks.{tasked, Placeable, TasksJudged};
 
-pub fn copy_of(task: Task, node: u32, start: u32) -> Copy
-    requires { ⌜ CopyFits task node start ⌝ }
-    ensures { λ r. ⌜ (r ≡ copyOn task node start) × (r .node < maxNodes) ⌝ }
+// The copy of a task that takes so long. Of the task no more than that is handed on: its run times would be copied.
+pub fn copy_of(node: u32, start: u32, run: u32) -> Copy
+    requires { ⌜ start + run ≤ maxStart + maxTime ⌝ }
+    ensures { λ r. ⌜ r ≡ record { node = node; start = start; finish = start + run } ⌝ }
 {
-    let n = node as usize;
     Copy {
         node,
         start,
-        finish: start + task.run[n],
+        finish: start + run,
     }
 }
 
@@ -79,8 +79,10 @@ pub fn place_copies(
     while j < n {
         let x = plan.places[j];
         let task = tasks[j];
-        let p = copy_of(task, x.primary_node, x.primary_start);
-        let b = copy_of(task, x.backup_node, x.backup_start);
+        let first = x.primary_node as usize;
+        let second = x.backup_node as usize;
+        let p = copy_of(x.primary_node, x.primary_start, task.run[first]);
+        let b = copy_of(x.backup_node, x.backup_start, task.run[second]);
         let q = p.node as usize;
         let own = nodes[q];
         let r = b.node as usize;

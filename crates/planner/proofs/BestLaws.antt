@@ -17,13 +17,13 @@ use Rattle.reader.proofs.FirstLaws.{first-some, some-first, first-none, none-fi
 use Rattle.rules.specs.declared.Copy.{Copy}
 use Rattle.copies.specs.declared.table.Copies.{Copies}
 use Rattle.copies.specs.Sets.{has}
+use Rattle.copies.specs.Layout.{spotsOf}
 use Rattle.planner.specs.declared.inputs.Ready.{Ready}
-use Rattle.planner.specs.declared.search.Ask.{Ask}
 use Rattle.planner.specs.declared.search.Search.{Search}
 use Rattle.planner.specs.Inputs.{readyOn}
 use Rattle.planner.specs.Search.{spot, tryAt, startedAt, onNode, bestOf, finishBelow, noPlace, placeBy, soonerOf}
-use Rattle.planner.specs.Search.{freeFrom, nodeOk, fits, Searched, Asked}
-use Rattle.planner.proofs.LeapLaws.{on-node-same, on-node-unable, barred-nothing, unbarred}
+use Rattle.planner.specs.Search.{nodeOk, fits, sweep, Searched, Asked}
+use Rattle.planner.proofs.LeapLaws.{sweep-past, swept, on-node-same, on-node-unable, barred-nothing, unbarred}
 
 -- what is found at t finishes at t
 abbrev Timed : (ℕ → Option Copy) → Type 0
@@ -118,11 +118,11 @@ module _ (d : ℕ) where
           (λ e. rw e)
 
 -- a search over the first k nodes
-module _ (cs : Copies) (before last : List ℕ) (search : Search) where
+module _ (cs : Copies) (order count : List ℕ) (search : Search) where
   pub record Best (k : ℕ) (best : Copy) : Type 0 where
     pub within : k ≤ search .nodes
     pub most : best .finish ≤ search .task .deadline + 1
-    pub is : placeBy best (search .task .deadline) ≡ bestOf (search .task .run) (suc (search .task .deadline)) (fits cs last search) k
+    pub is : placeBy best (search .task .deadline) ≡ bestOf (search .task .run) (suc (search .task .deadline)) (fits cs order count search) k
 
   pub first-best : (best : Copy) → best ≡ noPlace (search .task .deadline) → Best 0 best
   first-best best e =
@@ -132,14 +132,14 @@ module _ (cs : Copies) (before last : List ℕ) (search : Search) where
         is = ap (λ c. placeBy c (search .task .deadline)) e ∙ nowhere-none (search .task .deadline) ∙ best-start _ _ _;
       }
 
-  module _ (pre : Searched cs before last search) (n : ℕ) (best : Copy) (so-far : Best n best) (below : n < search .nodes) where
+  module _ (pre : Searched cs order count search) (n : ℕ) (best : Copy) (so-far : Best n best) (below : n < search .nodes) where
     abbrev run : ℕ
     run = getD (search .task .run) n 0
 
     few : n < maxNodes
     few = omega (arith, pre .nodes-most)
 
-    next : (r : Copy) (b : Option Copy) → r .finish ≤ search .task .deadline + 1 → b ≡ onNode n run (best .finish) (fits cs last search)
+    next : (r : Copy) (b : Option Copy) → r .finish ≤ search .task .deadline + 1 → b ≡ onNode n run (best .finish) (fits cs order count search)
         → placeBy r (search .task .deadline) ≡ (b or-else placeBy best (search .task .deadline)) → Best (n + 1) r
     next r b most e h =
         record {
@@ -150,49 +150,46 @@ module _ (cs : Copies) (before last : List ℕ) (search : Search) where
 
     -- the node's part of the search
     fits-here : (from : ℕ) → from ≡ max (readyOn (search .ready) n) (search .least)
-        → onNode n run (best .finish) (nodeOk cs (search .set) (getD last n 0) from (search .barred)) ≡ onNode n run (best .finish) (fits cs last search)
+        → onNode n run (best .finish) (nodeOk cs (search .set) (spotsOf order count n) from (search .barred))
+        ≡ onNode n run (best .finish) (fits cs order count search)
     unfolding fits
     fits-here from start =
-        on-node-same n run (best .finish) _ _ (λ s. ap (λ x. nodeOk cs (search .set) (getD last n 0) x (search .barred) (spot n s run)) start)
+        on-node-same n run (best .finish) _ _ (λ s. ap (λ x. nodeOk cs (search .set) (spotsOf order count n) x (search .barred) (spot n s run)) start)
 
     -- a node that may not have the copy
     pub best-passed : (r : Copy) → (ltb 0 run and not (has (search .barred) n)) ≡ false → r ≡ best → Best (n + 1) r
     unfolding _or-else_ _and_
     best-passed r h e = subst (Best (n + 1)) (sym e) (split (ltb 0 run)
         (λ e. next best none (so-far .most)
-        (barred-nothing cs (search .set) (getD last n 0) _ (search .barred) n run (best .finish) (not-x _ (rw e at h)) ∙ fits-here _ refl) refl)
+        (barred-nothing cs (search .set) (spotsOf order count n) _ (search .barred) n run (best .finish) (not-x _ (rw e at h)) ∙ fits-here _ refl) refl)
         (λ e. next best none (so-far .most) (on-node-unable n (best .finish) _ run (let z = ltb-false 0 run e in omega arith)) refl))
 
     -- one that may
     module _ (may : (ltb 0 run and not (has (search .barred) n)) ≡ true) (from : ℕ) (start : from ≡ max (readyOn (search .ready) n) (search .least)) where
-      abbrev ask : Ask
-      ask = record { last = getD last n 0; node = n; set = search .set; run = run; below = best .finish }
-
-      pub asked : Asked cs before ask from
+      pub asked : Asked (cs .finish) order (record { node = n; count = getD count n 0; set = search .set; run = run }) from
       asked =
           record {
-            last = pre .lasts n few;
-            chain = pre .chains n few;
+            node = few;
+            filled = pre .filled n few;
             run = pre .run n below;
-            able = ltb-true 0 run (and-l _ _ may);
-            below = omega (arith, so-far .most, pre .deadline);
             soon = omega (arith, pre .ready n, pre .least);
-            ends = pre .ends n few;
+            ends = pre .ends;
           }
 
-      pub best-next : (s : ℕ) (r : Copy) → startedAt n run (best .finish) s ≡ onNode n run (best .finish) (freeFrom cs (search .set) (getD last n 0) from)
-          → r ≡ soonerOf best n s run → Best (n + 1) r
-      best-next s r e h =
+      pub best-next : (r : Copy) → r ≡ soonerOf best n (sweep cs (search .set) run (spotsOf order count n) from) run → Best (n + 1) r
+      best-next r h =
+          let s = sweep cs (search .set) run (spotsOf order count n) from in
           next r (startedAt n run (best .finish) s)
           (subst (λ c. c .finish ≤ search .task .deadline + 1) (sym h) (sooner-most _ best (so-far .most) n s run))
-          (e ∙ unbarred cs (search .set) (getD last n 0) from (search .barred) n run (best .finish) (not-e _ (and-r _ _ may)) ∙ fits-here from start)
+          (swept cs (search .set) n run (best .finish) from (spotsOf order count n) (pre .rising n few) (ltb-true 0 run (and-l _ _ may)) s refl
+          ∙ unbarred cs (search .set) (spotsOf order count n) from (search .barred) n run (best .finish) (not-e _ (and-r _ _ may)) ∙ fits-here from start)
           (ap (λ c. placeBy c (search .task .deadline)) h ∙ sooner-is _ best (so-far .most) n s run)
 
 -- the last node is behind
-pub best-found : (cs : Copies) (before last : List ℕ) (search : Search) (n : ℕ) (best : Copy) (o : Option Copy) → Best cs before last search n best
+pub best-found : (cs : Copies) (order count : List ℕ) (search : Search) (n : ℕ) (best : Copy) (o : Option Copy) → Best cs order count search n best
     → search .nodes ≤ n → o ≡ placeBy best (search .task .deadline)
-    → o ≡ bestOf (search .task .run) (suc (search .task .deadline)) (fits cs last search) (search .nodes)
-best-found cs before last search n best o h p e = e ∙ best-done _ _ _ n (search .nodes) _ (omega (arith, h .within)) (h .is)
+    → o ≡ bestOf (search .task .run) (suc (search .task .deadline)) (fits cs order count search) (search .nodes)
+best-found cs order count search n best o h p e = e ∙ best-done _ _ _ n (search .nodes) _ (omega (arith, h .within)) (h .is)
 
 pub start-at : (r : Ready) (n least ready from : ℕ) → ready ≡ readyOn r n → from ≡ max ready least → from ≡ max (readyOn r n) least
 start-at r n least ready from e h = h ∙ ap (λ x. max x least) e
@@ -206,6 +203,14 @@ module _ (best : Copy) (n s run : ℕ) where
   pub sooner-no : best .finish ≤ s + run → best ≡ soonerOf best n s run
   unfolding soonerOf
   sooner-no p = rw (le-ltb (s + run) (best .finish) p)
+
+-- a node on which nothing can be sooner
+pub better-none : (cs : Copies) (m n run from : ℕ) (l : List ℕ) (best : Copy) → best .finish ≤ from + run
+    → best ≡ soonerOf best n (sweep cs m run l from) run
+better-none cs m n run from l best p = sooner-no best n _ run (omega (arith, sweep-past cs m n run l from))
+
+pub better-at : (best : Copy) (n s t run : ℕ) (r : Copy) → s ≡ t → r ≡ soonerOf best n s run → r ≡ soonerOf best n t run
+better-at best n s t run r e h = h ∙ ap (λ s. soonerOf best n s run) e
 
 module _ (best : Copy) (deadline : ℕ) where
   pub place-yes : best .finish ≤ deadline → some best ≡ placeBy best deadline

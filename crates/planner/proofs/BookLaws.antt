@@ -1,14 +1,12 @@
--- Both copies of a task stored, and at the head of their chains.
+-- Both copies of a task stored, and laid out.
 use Prim.Native.Nat.{ℕ, _+_, _*_}
 use mathlib.Core.List.{List}
-use mathlib.Core.Path.{_≡_, _∙_}
+use mathlib.Core.Path.{_≡_, _∙_, subst}
 use native.Mathlib.Omega.{arith}
-use Rattle.reader.specs.Limits.{maxNodes}
 use Rattle.copies.specs.declared.table.Copies.{Copies}
 use Rattle.copies.specs.Sets.{everyGroup}
-use Rattle.copies.specs.Table.{copyCount, Whole, Stored}
-use Rattle.copies.specs.Chain.{Chained, Joins}
-use Rattle.copies.proofs.ChainLaws.{chained-pair}
+use Rattle.copies.specs.Table.{Whole, Stored}
+use Rattle.copies.specs.Layout.{Laid}
 use Rattle.planner.specs.declared.task.Pair.{Pair}
 use Rattle.planner.specs.Tasks.{Booked}
 
@@ -25,8 +23,5 @@ stored-booked cs j x half r one then whole =
       other-set = λ k y z. then .other-set k z ∙ one .other-set k y;
     }
 
--- copies on nodes x and y
-pub joined-up : (j x y : ℕ) (last before l b m a : List ℕ) → Joins maxNodes copyCount (2 * j) x last before l b
-    → Joins maxNodes copyCount (2 * j + 1) y l b m a → (key : ℕ → ℕ) → key (2 * j) ≡ x → key (2 * j + 1) ≡ y
-    → Chained key maxNodes copyCount (2 * j) last before → Chained key maxNodes copyCount (2 * (j + 1)) m a
-joined-up j x y last before l b m a u v key p q h = chained-pair key _ _ j last before l b m a h (u key p) (v key q)
+pub both-laid : (node start : List ℕ) (j : ℕ) (order count : List ℕ) → Laid node start (2 * j + 1 + 1) order count → Laid node start (2 * (j + 1)) order count
+both-laid node start j order count h = let e : 2 * j + 1 + 1 ≡ 2 * (j + 1) = omega arith in subst (λ k. Laid node start k order count) e h

@@ -1,7 +1,7 @@
 -- One task placed: what a search asks of a copy is what the planner's rules ask of it, and what the searches give is what `placeTask` gives.
 use Prim.Native.Nat.{ℕ, suc, _+_, _-_, _*_, _≤_, _<_, max}
 use mathlib.Core.Bool.{Bool, true, false, not}
-use mathlib.Core.List.{List}
+use mathlib.Core.List.{List, []}
 use mathlib.Core.Option.{some}
 use mathlib.Core.Path.{_≡_, refl, sym, _∙_, ap, ap₂, subst}
 use lib.Bits.{bitAnd}
@@ -30,13 +30,14 @@ use Rattle.rules.proofs.EarliestLaws.{earliest-some}
 use Rattle.rules.proofs.FaultSetLaws.{faults-here}
 use Rattle.copies.specs.declared.table.Copies.{Copies}
 use Rattle.copies.specs.Sets.{has, meets, everyGroup}
-use Rattle.copies.specs.Table.{setAt, rowOf}
-use Rattle.copies.specs.Clash.{free}
+use Rattle.copies.specs.Table.{table, setAt, rowOf}
+use Rattle.copies.specs.Layout.{spotsOf}
+use Rattle.copies.specs.Clash.{free, freeOf}
 use Rattle.copies.specs.Gathered.{joined}
 use Rattle.copies.proofs.SetLaws.{has-none, has-both, empty-set}
 use Rattle.copies.proofs.ArrivalLaws.{comes-is, leb-max, backup-fed}
-use Rattle.copies.proofs.ChainLaws.{chain-of, chain-within}
-use Rattle.copies.proofs.ClashLaws.{free-last, free-primary, free-backup}
+use Rattle.copies.proofs.LayoutLaws.{laid-filled, laid-rising}
+use Rattle.copies.proofs.ClashLaws.{free-timeline, free-primary, free-backup}
 use Rattle.planner.specs.declared.inputs.Ready.{Ready}
 use Rattle.planner.specs.declared.search.Search.{Search}
 use Rattle.planner.specs.declared.slot.Slot.{Slot}
@@ -121,8 +122,8 @@ shuffle true true false false rg x h e = refl
 shuffle true false re false rg x h e = refl
 shuffle false rb re false rg x h e = refl
 
-module _ (next from delay : List ℕ) (cs : Copies) (leave before last peers : List ℕ) (want : Want)
-    (w : Wanted next from delay cs leave before last peers want) where
+module _ (next from delay : List ℕ) (cs : Copies) (leave order count peers : List ℕ) (want : Want)
+    (w : Wanted next from delay cs leave order count peers want) where
   abbrev job : Job
   job = w .job
 
@@ -133,16 +134,21 @@ module _ (next from delay : List ℕ) (cs : Copies) (leave before last peers : L
   key m = link job m .to
 
   pub want-sending : Sending next from delay (outOf cs leave) (want .into)
-  want-sending = into-sending job next from delay j (want .into) (w .into) (w .sound) (w .rows) cs leave before last (w .beside)
+  want-sending = into-sending job next from delay j (want .into) (w .into) (w .sound) (w .rows) cs leave order count (w .beside)
 
   -- the group of a node of the job
   want-group : (i : ℕ) → i < nodes job → getD (want .nodes) i noNode .group ≤ maxGroup
   want-group i p = subst (λ x. getD x i noNode .group ≤ maxGroup) (sym (w .nodes-are)) (w .sound .group-most i p)
 
-  -- no clash on the chain of the copy's node, and none at all
-  free-all : (m : ℕ) (c : Copy) → c .node < nodes job → free cs m c (getD last (c .node) 0) ≡ free cs m c (2 * w .rows)
+  -- the columns that a search reads
+  abbrev times : Copies
+  times = table [] (cs .start) (cs .finish) (cs .set)
+
+  -- no clash with the entries on the copy's node, and none at all
+  free-all : (m : ℕ) (c : Copy) → c .node < nodes job → freeOf times m c (spotsOf order count (c .node)) ≡ free cs m c (2 * w .rows)
+  unfolding freeOf
   free-all m c p =
-      ap (free cs m c) (w .beside .laid .lasts (c .node) (omega (arith, w .sound .nodes-most))) ∙ free-last cs m c (2 * w .rows)
+      ap (freeOf cs m c) (w .beside .laid .is (c .node) (omega (arith, w .sound .nodes-most))) ∙ free-timeline cs m (c .node) (2 * w .rows) c refl
 
   -- either search
   abbrev searching : Ready → ℕ → ℕ → ℕ → Search
@@ -150,28 +156,28 @@ module _ (next from delay : List ℕ) (cs : Copies) (leave before last peers : L
       record { task = want .task; nodes = want .count; ready = ready; least = least; set = set; barred = barred }
 
   searched : (ready : Ready) (least set barred : ℕ) → least ≤ latestInput → ((n : ℕ) → readyOn ready n ≤ latestInput)
-      → Searched cs before last (searching ready least set barred)
+      → Searched times order count (searching ready least set barred)
   searched ready least set barred p q =
       record {
         nodes-most = omega (arith, w .count-is, w .sound .nodes-most);
         run = λ n r. subst (λ t. getD (t .run) n 0 ≤ maxTime) (sym (w .task-is)) (w .sound .run-most j n (w .task-of) (omega (arith, w .count-is)));
         deadline = subst (λ t. t .deadline ≤ maxTime) (sym (w .task-is)) (w .sound .deadline-most j (w .task-of));
-        lasts = λ n r. omega (arith, chain-within _ _ _ _ last before (w .beside .laid) n r, w .beside .few);
-        chains = λ n r. chain-of _ _ _ _ last before (w .beside .laid) n r;
-        ends = λ n r k b. w .beside .soon k;
+        filled = λ n r. laid-filled _ _ order count _ (w .beside .laid) n r (omega (arith, w .beside .few));
+        rising = λ n r. laid-rising _ _ order count _ (w .beside .laid) n r;
+        ends = w .beside .soon;
         least = p;
         ready = q;
       }
 
   -- what it gave
   abbrev Gave : Search → Slot → Type 0
-  Gave s a = slotCopy a ≡ bestOf (s .task .run) (suc (s .task .deadline)) (fits cs last s) (s .nodes)
+  Gave s a = slotCopy a ≡ bestOf (s .task .run) (suc (s .task .deadline)) (fits times order count s) (s .nodes)
 
   gave : (s t : Search) → s ≡ t → t .task ≡ want .task → t .nodes ≡ want .count → (keeps : Copy → Bool)
-      → ((c : Copy) → c .node < nodes job → c .start < c .finish → fits cs last t c ≡ keeps c)
+      → ((c : Copy) → c .node < nodes job → c .start < c .finish → fits times order count t c ≡ keeps c)
       → (a : Slot) → Gave s a → slotCopy a ≡ earliest job j keeps
   gave s t e u v keeps h a g =
-      subst (λ s. Gave s a) e g ∙ best-earliest job j _ _ (u ∙ w .task-is) (v ∙ w .count-is) (fits cs last t) keeps h
+      subst (λ s. Gave s a) e g ∙ best-earliest job j _ _ (u ∙ w .task-is) (v ∙ w .count-is) (fits times order count t) keeps h
 
   found : (keeps : Copy → Bool) (c : Copy) → earliest job j keeps ≡ some c → Found job c
   found keeps c e = best-found job j keeps c (w .sound) (w .task-of) (earliest-some job j keeps c .0 e)
@@ -205,8 +211,8 @@ module _ (next from delay : List ℕ) (cs : Copies) (leave before last peers : L
 
   -- the primary's search
   module _ (fed : Ready) (given : Fed 0 fed) (s : Search) (is-s : s ≡ primarySearch (want .task) (want .count) fed (want .least) (want .shut)) where
-    pub primary-ready : Searched cs before last s
-    primary-ready = subst (Searched cs before last) (sym is-s) (searched fed soonest everyGroup (want .shut) soonest-most (given .most))
+    pub primary-ready : Searched times order count s
+    primary-ready = subst (Searched times order count) (sym is-s) (searched fed soonest everyGroup (want .shut) soonest-most (given .most))
 
     abbrev may : Copy → Bool
     may = primaryMay job (primaryFrom (want .least) (want .shut)) (w .rows) (rowOf cs) j
@@ -217,7 +223,7 @@ module _ (next from delay : List ℕ) (cs : Copies) (leave before last peers : L
     d-is c = fed-is 0 fed given c _ (λ m b e. rw (meets-none (setAt cs (2 * link job m .from + 1))) (and-yes _ ∙ comes-is job (link job m) _ c))
 
     primary-fits : (c : Copy) → c .node < nodes job → c .start < c .finish
-        → fits cs last (primarySearch (want .task) (want .count) fed (want .least) (want .shut)) c ≡ may c
+        → fits times order count (primarySearch (want .task) (want .count) fed (want .least) (want .shut)) c ≡ may c
     unfolding fits nodeOk freeFrom primaryKeeps primaryFrom
     primary-fits c p q =
         ap (λ g. not (has (want .shut) (c .node)) and leb (max (readyOn fed (c .node)) soonest) (c .start) and g)
@@ -280,7 +286,7 @@ module _ (next from delay : List ℕ) (cs : Copies) (leave before last peers : L
           b-is b = ap (λ x. leb (p .finish + getD x (p .node) noNode .detect) (b .start)) (w .nodes-are)
 
           g-is : (b : Copy) → b .node < nodes job → b .start < b .finish
-              → free cs set b (getD last (b .node) 0) ≡ every (w .rows) (λ i. ruleGBackup job (rowOf cs i) (the-row b))
+              → freeOf times set b (spotsOf order count (b .node)) ≡ every (w .rows) (λ i. ruleGBackup job (rowOf cs i) (the-row b))
           unfolding row
           g-is b on q =
               free-all set b on
@@ -290,8 +296,8 @@ module _ (next from delay : List ℕ) (cs : Copies) (leave before last peers : L
           -- and the backup's search, which the nodes in `barred` are kept from
           module _ (late : Ready) (more : Fed set late) (barred : ℕ) (bars : (i : ℕ) → has barred i ≡ joined 0 set peers i)
               (t : Search) (is-t : t ≡ backupSearch (want .task) (want .count) late least set barred) where
-            pub backup-ready : Searched cs before last t
-            backup-ready = subst (Searched cs before last) (sym is-t) (searched late least set barred least-fits (more .most))
+            pub backup-ready : Searched times order count t
+            backup-ready = subst (Searched times order count) (sym is-t) (searched late least set barred least-fits (more .most))
 
             f-is : (b : Copy) → b .node < nodes job → not (has barred (b .node)) ≡ ruleF job (the-row b)
             unfolding ruleF row domain
@@ -307,7 +313,7 @@ module _ (next from delay : List ℕ) (cs : Copies) (leave before last peers : L
             e-is b = fed-is set late more b _ (λ m q e. backup-fed job cs (w .rows) (w .beside .held) set (the-row b) faults (link job m) _ (w .fed m q e))
 
             backup-fits : (b : Copy) → b .node < nodes job → b .start < b .finish
-                → fits cs last (backupSearch (want .task) (want .count) late least set barred) b ≡ backupKeepsBeside job (w .rows) (rowOf cs) j p b
+                → fits times order count (backupSearch (want .task) (want .count) late least set barred) b ≡ backupKeepsBeside job (w .rows) (rowOf cs) j p b
             unfolding fits nodeOk freeFrom backupKeeps
             backup-fits b on q =
                 ap₂ (λ x y. x and leb (max (readyOn late (b .node)) least) (b .start) and y) (f-is b on) (g-is b on q)

@@ -13,3 +13,4 @@ pub mod WantLaws
 pub mod TaskLaws
 pub mod PlannedLaws
 pub mod SetsBetween
+pub mod LayoutBetween

@@ -78,9 +78,9 @@ module _ (job : Job) (next from delay : List ℕ) (j into : ℕ) (i : Into job n
   into-any t h = ap not (into-every (λ m. not (t m)) (λ m p. not-i _ (h m p)))
 
   -- beside copies that all end soon
-  pub into-sending : Sound job → (m : ℕ) (cs : Copies) (leave before last : List ℕ) → Beside job m cs leave before last
+  pub into-sending : Sound job → (m : ℕ) (cs : Copies) (leave order count : List ℕ) → Beside job m cs leave order count
       → Sending next from delay (outOf cs leave) into
-  into-sending sound m cs leave before last beside k p =
+  into-sending sound m cs leave order count beside k p =
       let b : k < links job = omega (arith, into-within) in
       let soon : (e : ℕ) → InBy (resultAt (cs .node) (cs .finish) leave (getD delay k 0) e) =
       λ e. (omega (arith, beside .after e), omega (arith, i .delays k b, sound .delay-most k b, beside .leaving .soon e)) in

@@ -15,7 +15,7 @@ use Rattle.copies.specs.Table.{setAt, rowOf}
 use Rattle.planner.specs.Senders.{Net}
 use Rattle.planner.specs.Tasks.{Planning}
 
-module _ (job : Job) (net : Net) (j : ℕ) (cs : Copies) (leave before last : List ℕ) (so-far : Planning job net j cs leave before last) where
+module _ (job : Job) (net : Net) (j : ℕ) (cs : Copies) (leave order count : List ℕ) (so-far : Planning job net j cs leave order count) where
   pub sets-placed : (plan : Plan) → planner job ≡ placed plan → (i q : ℕ) → i < j → has (setAt cs (2 * i + 1)) q ≡ gatheredTo job plan j i q
   unfolding planner rowOf
   sets-placed plan h i q p =

@@ -4,7 +4,7 @@ use mathlib.Core.Bool.{true}
 use mathlib.Core.List.{List}
 use mathlib.Core.Path.{_≡_, refl, sym, _∙_, ap, ap₂, subst, fun-ext}
 use lib.Dec.{eqb}
-use lib.ListN.{getD, set, length, replicate}
+use lib.ListN.{getD, set, length, replicate, length-replicate}
 use lib.Seq.{getD-set-other}
 use borrow.Author.Tests.{eqb-true, eqb-false}
 use native.Mathlib.Decide.{decLt}
@@ -25,18 +25,19 @@ use Rattle.copies.specs.declared.table.Copies.{Copies}
 use Rattle.copies.specs.Arrival.{leaveOf, Leaving}
 use Rattle.copies.specs.Sets.{has, everyGroup}
 use Rattle.copies.specs.Table.{copyCount, entry, setAt, rowOf, emptyCopies, Held}
+use Rattle.copies.specs.Layout.{spots, Laid}
 use Rattle.copies.proofs.ListMore.{replicated}
 use Rattle.copies.proofs.ArrivalLaws.{leaving-start, leaving-more}
-use Rattle.copies.proofs.ChainLaws.{chained-start, chained-same}
+use Rattle.copies.proofs.LayoutLaws.{laid-start, laid-same}
 use Rattle.copies.proofs.TableLaws.{same-row}
 use Rattle.planner.specs.declared.task.Pair.{Pair}
-use Rattle.planner.specs.Tasks.{Beside, pairRow, Bookable, Booked, Departing, departed, Chainable, ChainedUp}
+use Rattle.planner.specs.Tasks.{Beside, pairRow, Bookable, Booked, Departing, departed, OnRack, Next}
 use Rattle.planner.proofs.KeepsLaws.{Found, faults-own}
 
 -- no task is stored yet
-pub beside-start : (job : Job) (leave before last : List ℕ) → leave ≡ replicate copyCount 0 → before ≡ replicate copyCount 0
-    → last ≡ replicate maxNodes 0 → Beside job 0 emptyCopies leave before last
-beside-start job leave before last o b l =
+pub beside-start : (job : Job) (leave order count : List ℕ) → leave ≡ replicate copyCount 0 → order ≡ replicate spots 0
+    → count ≡ replicate maxNodes 0 → Beside job 0 emptyCopies leave order count
+beside-start job leave order count o b l =
     record {
       few = omega arith;
       held = record {
@@ -49,7 +50,7 @@ beside-start job leave before last o b l =
       };
       whole = record { node = refl; start = refl; finish = refl; set = refl };
       soon = λ k. omega (arith, replicated {A = ℕ} 0 copyCount k);
-      laid = chained-start _ _ _ last before (ap length l) (ap length b) (λ n. ap (λ x. getD x n 0) l ∙ replicated 0 maxNodes n);
+      laid = laid-start _ _ order count (ap length b ∙ length-replicate {A = ℕ} spots 0) (ap length l) (λ n. ap (λ x. getD x n 0) l ∙ replicated 0 maxNodes n);
       leaving = leaving-start job emptyCopies leave o;
       after = λ k. omega (arith, replicated {A = ℕ} 0 copyCount k);
     }
@@ -86,14 +87,14 @@ module _ (j : ℕ) (x : Pair) (cs r : Copies) (b : Booked j x cs r) where
       ]
 
 -- task j, with copies x, beside those before it
-module _ (job : Job) (j : ℕ) (cs : Copies) (leave before last : List ℕ) (sound : Sound job) (beside : Beside job j cs leave before last)
+module _ (job : Job) (j : ℕ) (cs : Copies) (leave order count : List ℕ) (sound : Sound job) (beside : Beside job j cs leave order count)
     (task-of : j < tasks job) (x : Pair) where
   pub pair-bookable : Bookable cs j x
   pair-bookable = (beside .whole, omega (arith, sound .tasks-most))
 
   module _ (p-found : Found job (x .primary)) (q-found : Found job (x .backup)) where
-    pub pair-chainable : Chainable j x
-    pair-chainable =
+    pair-on-rack : OnRack j x
+    pair-on-rack =
         record {
           room = omega (arith, sound .tasks-most);
           primary = omega (arith, p-found .node, sound .nodes-most);
@@ -107,7 +108,7 @@ module _ (job : Job) (j : ℕ) (cs : Copies) (leave before last : List ℕ) (sou
     pub pair-departing : Departing (job .nodes) j x
     pair-departing =
         record {
-          chainable = pair-chainable;
+          on-rack = pair-on-rack;
           primary-fits = omega (arith, leaves (x .primary) p-found);
           backup-fits = omega (arith, leaves (x .backup) q-found);
         }
@@ -172,16 +173,26 @@ module _ (job : Job) (j : ℕ) (cs : Copies) (leave before last : List ℕ) (sou
                   omega (arith, ap (λ c. c .finish) (b .other k (omega arith) (omega arith)), beside .after k, above, still)
             ]
 
-        pub booked-beside : (leave' before' last' : List ℕ) → leave' ≡ departed (job .nodes) j x leave → ChainedUp j x last before last' before'
-            → Beside job (j + 1) r leave' before' last'
-        booked-beside leave' before' last' gone up =
+        -- and can be laid out
+        pub pair-next : Next (r .node) (r .start) j order count
+        pair-next =
+            record {
+              room = omega (arith, sound .tasks-most);
+              primary = subst (λ c. c .node < maxNodes) (sym (b .primary)) (pair-on-rack .primary);
+              backup = subst (λ c. c .node < maxNodes) (sym (b .backup)) (pair-on-rack .backup);
+              laid = laid-same _ _ _ _ _ order count (λ i p. sym (ap (λ c. c .node) (b .other i (omega arith) (omega arith))))
+                  (λ i p. sym (ap (λ c. c .start) (b .other i (omega arith) (omega arith)))) (beside .laid);
+            }
+
+        pub booked-beside : (leave' order' count' : List ℕ) → leave' ≡ departed (job .nodes) j x leave
+            → Laid (r .node) (r .start) (2 * (j + 1)) order' count' → Beside job (j + 1) r leave' order' count'
+        booked-beside leave' order' count' gone laid =
             record {
               few = omega (arith, sound .tasks-most);
               held = next-held;
               whole = b .whole;
               soon = next-soon;
-              laid = up _ (ap (λ c. c .node) (b .primary)) (ap (λ c. c .node) (b .backup))
-                  (chained-same _ _ _ _ _ _ _ (λ i w. sym (ap (λ c. c .node) (b .other i (omega arith) (omega arith)))) (beside .laid));
+              laid = laid;
               leaving = rw gone next-leaving;
               after = λ k. rw gone (next-after k);
             }

@@ -27,16 +27,16 @@ from-anywhere j = fun-ext λ p. rw (has-none (p .node)) (le-leb 0 (p .start) (om
 
 -- what `place_task` says of its answer
 abbrev pub Told : List ℕ → List ℕ → List ℕ → Copies → List ℕ → List ℕ → List ℕ → List ℕ → Want → Placing → Type 0
-Told next from delay cs leave before last peers want a =
-    (w : Wanted next from delay cs leave before last peers want)
+Told next from delay cs leave order count peers want a =
+    (w : Wanted next from delay cs leave order count peers want)
     → attempted a ≡ placeTask (w .job) (primaryFrom (want .least) (want .shut)) (w .rows) (rowOf cs) (want .number)
 
 -- task j is wanted, beside those before it
-module _ (job : Job) (into next from delay : List ℕ) (j : ℕ) (cs : Copies) (leave before last : List ℕ) (sound : Sound job)
-    (sent : Sent (job .links) (links job) into next from delay) (beside : Beside job j cs leave before last) (task-of : j < tasks job)
+module _ (job : Job) (into next from delay : List ℕ) (j : ℕ) (cs : Copies) (leave order count : List ℕ) (sound : Sound job)
+    (sent : Sent (job .links) (links job) into next from delay) (beside : Beside job j cs leave order count) (task-of : j < tasks job)
     (peers : List ℕ) (by-group : Peers (job .nodes) (nodes job) peers) (want : Want)
     (is-want : want ≡ wantOf j (task job j) (job .nodes) (nodes job) (getD into j 0)) where
-  wanted : Wanted next from delay cs leave before last peers (wantOf j (task job j) (job .nodes) (nodes job) (getD into j 0))
+  wanted : Wanted next from delay cs leave order count peers (wantOf j (task job j) (job .nodes) (nodes job) (getD into j 0))
   wanted =
       record {
         job = job;
@@ -53,11 +53,11 @@ module _ (job : Job) (into next from delay : List ℕ) (j : ℕ) (cs : Copies) (
         beside = beside;
       }
 
-  pub asked : Wanted next from delay cs leave before last peers want
-  asked = subst (Wanted next from delay cs leave before last peers) (sym is-want) wanted
+  pub asked : Wanted next from delay cs leave order count peers want
+  asked = subst (Wanted next from delay cs leave order count peers) (sym is-want) wanted
 
-  pub told : (a : Placing) → Told next from delay cs leave before last peers want a → attempted a ≡ placeTask job (anywhere j) j (rowOf cs) j
+  pub told : (a : Placing) → Told next from delay cs leave order count peers want a → attempted a ≡ placeTask job (anywhere j) j (rowOf cs) j
   unfolding wanted
   told a f =
       subst (λ may. attempted a ≡ placeTask job may j (rowOf cs) j) (from-anywhere j)
-      (subst (λ want. Told next from delay cs leave before last peers want a) is-want f wanted)
+      (subst (λ want. Told next from delay cs leave order count peers want a) is-want f wanted)

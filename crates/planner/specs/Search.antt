@@ -1,8 +1,8 @@
 -- The search for a copy's place: on one node, and on all.
 use Prim.Native.Nat.{ℕ, _+_, _-_, _≤_, _<_, max}
-use mathlib.Core.Bool.{Bool, false, not, cond}
+use mathlib.Core.Bool.{Bool, true, not, cond}
 use mathlib.Core.Path.{_≡_}
-use mathlib.Core.List.{List}
+use mathlib.Core.List.{List, [], _∷_}
 use mathlib.Core.Option.{Option, none, some}
 use lib.Dec.{leb, ltb}
 use lib.ListN.{getD}
@@ -12,10 +12,11 @@ use Rattle.reader.specs.First.{first, when}
 use Rattle.reader.specs.Limits.{maxNodes, maxStart, maxTime}
 use Rattle.rules.specs.declared.Copy.{Copy}
 use Rattle.copies.specs.declared.table.Copies.{Copies}
-use Rattle.copies.specs.Sets.{has, everyGroup}
-use Rattle.copies.specs.Table.{copyCount, nodeAt, entry}
-use Rattle.copies.specs.Chain.{Chain}
-use Rattle.copies.specs.Clash.{free}
+use Rattle.copies.specs.Sets.{has, meets, everyGroup}
+use Rattle.copies.specs.Table.{startAt, setAt}
+use Rattle.copies.specs.Layout.{allPairs, baseOf, spotsOf}
+use Rattle.copies.specs.Laying.{Filled}
+use Rattle.copies.specs.Clash.{freeOf}
 use Rattle.planner.specs.declared.inputs.Ready.{Ready}
 use Rattle.planner.specs.declared.search.Ask.{Ask}
 use Rattle.planner.specs.declared.search.Search.{Search}
@@ -65,18 +66,25 @@ placeBy best deadline = when (leb (best .finish) deadline) best
 unfoldable pub soonerOf : Copy → ℕ → ℕ → ℕ → Copy
 soonerOf best n s run = cond (ltb (s + run) (best .finish)) (spot n s run) best
 
--- c starts from `from` on and clashes with none of the first n entries
-unfoldable pub freeFrom : Copies → ℕ → ℕ → ℕ → Copy → Bool
-freeFrom cs m n from c = leb from (c .start) and free cs m c n
+-- c starts from `from` on and clashes with none of these entries on its node
+unfoldable pub freeFrom : Copies → ℕ → List ℕ → ℕ → Copy → Bool
+freeFrom cs m l from c = leb from (c .start) and freeOf cs m c l
 
 -- and its node is not barred
-unfoldable pub nodeOk : Copies → ℕ → ℕ → ℕ → ℕ → Copy → Bool
-nodeOk cs m n from barred c = not (has barred (c .node)) and freeFrom cs m n from c
+unfoldable pub nodeOk : Copies → ℕ → List ℕ → ℕ → ℕ → Copy → Bool
+nodeOk cs m l from barred c = not (has barred (c .node)) and freeFrom cs m l from c
 
--- what a search asks of a copy, where the entries on each node are among those before its last
-unfoldable pub fits : Copies → List ℕ → Search → Copy → Bool
-fits cs last search c =
-    nodeOk cs (search .set) (getD last (c .node) 0) (max (readyOn (search .ready) (c .node)) (search .least)) (search .barred) c
+-- what a search asks of a copy, where the entries of each node stand in its spots
+unfoldable pub fits : Copies → List ℕ → List ℕ → Search → Copy → Bool
+fits cs order count search c =
+    nodeOk cs (search .set) (spotsOf order count (c .node)) (max (readyOn (search .ready) (c .node)) (search .least)) (search .barred) c
+
+-- the earliest start from s on of a copy of set m that runs so long: a sweep over entries in order of start, each of which, where the sets meet, is
+-- leapt over, up to the first that starts behind the copy's finish
+unfoldable pub sweep : Copies → ℕ → ℕ → List ℕ → ℕ → ℕ
+sweep cs m run [] s = s
+sweep cs m run (i ∷ rest) s =
+    cond (leb (s + run) (getD (cs .start) i 0)) s (sweep cs m run rest (max s (cond (meets (setAt cs i) m) (getD (cs .finish) i 0) 0)))
 
 -- the searches for a task's primary, which keeps the ready time, and for its backup
 abbrev pub primarySearch : Task → ℕ → Ready → ℕ → ℕ → Search
@@ -88,32 +96,28 @@ backupSearch task nodes ready least set barred =
     record { task = task; nodes = nodes; ready = ready; least = least; set = set; barred = barred }
 
 -- no entry ends later
-abbrev pub EndsSoon : Copies → ℕ → Type 0
-EndsSoon cs count = (k : ℕ) → k < count → entry cs k .finish ≤ maxStart + maxTime
+abbrev pub EndsSoon : List ℕ → Type 0
+EndsSoon finish = (k : ℕ) → getD finish k 0 ≤ maxStart + maxTime
+
+-- the starts of these entries do not fall
+abbrev pub Rising : Copies → List ℕ → Type 0
+Rising cs l = allPairs (λ a b. leb (startAt (cs .start) a) (startAt (cs .start) b)) l ≡ true
 
 -- what a search on a node rests on
-pub record Asked (cs : Copies) (before : List ℕ) (ask : Ask) (from : ℕ) : Type 0 where
-  pub last : ask .last ≤ copyCount
-  pub chain : Chain (nodeAt (cs .node)) before (ask .node) (ask .last)
+pub record Asked (finish order : List ℕ) (ask : Ask) (from : ℕ) : Type 0 where
+  pub node : ask .node < maxNodes
+  pub filled : Filled order (baseOf (ask .node)) (baseOf (ask .node) + ask .count)
   pub run : ask .run ≤ maxTime
-  pub able : 0 < ask .run
-  pub below : ask .below ≤ maxTime + 1
   pub soon : from ≤ latestInput
-  pub ends : EndsSoon cs (ask .last)
+  pub ends : EndsSoon finish
 
 -- and one on all nodes
-pub record Searched (cs : Copies) (before last : List ℕ) (search : Search) : Type 0 where
+pub record Searched (cs : Copies) (order count : List ℕ) (search : Search) : Type 0 where
   pub nodes-most : search .nodes ≤ maxNodes
   pub run : (n : ℕ) → n < search .nodes → getD (search .task .run) n 0 ≤ maxTime
   pub deadline : search .task .deadline ≤ maxTime
-  pub lasts : (n : ℕ) → n < maxNodes → getD last n 0 ≤ copyCount
-  pub chains : (n : ℕ) → n < maxNodes → Chain (nodeAt (cs .node)) before n (getD last n 0)
-  pub ends : (n : ℕ) → n < maxNodes → EndsSoon cs (getD last n 0)
+  pub filled : (n : ℕ) → n < maxNodes → Filled order (baseOf n) (baseOf n + getD count n 0)
+  pub rising : (n : ℕ) → n < maxNodes → Rising cs (spotsOf order count n)
+  pub ends : EndsSoon (cs .finish)
   pub least : search .least ≤ latestInput
   pub ready : (n : ℕ) → readyOn (search .ready) n ≤ latestInput
-
--- of one node: the starts from `from` up to s are not free
-pub record Leapt (cs : Copies) (ask : Ask) (from s : ℕ) : Type 0 where
-  pub past : from ≤ s
-  pub small : s ≤ latestInput
-  pub busy : (u : ℕ) → from ≤ u → u < s → free cs (ask .set) (spot (ask .node) u (ask .run)) (ask .last) ≡ false

@@ -24,7 +24,7 @@ use Rattle.copies.specs.declared.table.Copies.{Copies}
 use Rattle.copies.specs.Arrival.{leaveBy, Leaving}
 use Rattle.copies.specs.Sets.{has, everyGroup}
 use Rattle.copies.specs.Table.{copyCount, nodeAt, entry, setAt, rowOf, Whole, Held}
-use Rattle.copies.specs.Chain.{Chained}
+use Rattle.copies.specs.Layout.{Laid}
 use Rattle.planner.specs.declared.Planned.{Planned}
 use Rattle.planner.specs.declared.task.Want.{Want}
 use Rattle.planner.specs.declared.task.Pair.{Pair}
@@ -37,17 +37,13 @@ use Rattle.planner.specs.Faults.{Peers}
 unfoldable pub primaryFrom : ℕ → ℕ → Copy → Bool
 primaryFrom least shut p = not (has shut (p .node)) and leb least (p .start)
 
--- the copies of the first m tasks stand on the chains of their nodes
-abbrev pub Laid : ℕ → Copies → List ℕ → List ℕ → Type 0
-Laid m cs before last = Chained (nodeAt (cs .node)) maxNodes copyCount (2 * m) last before
-
--- what is placed: the copies of the first m tasks; no result leaves before its copy ends
-pub record Beside (job : Job) (m : ℕ) (cs : Copies) (leave before last : List ℕ) : Type 0 where
+-- what is placed: the copies of the first m tasks, those of each node in order of time; no result leaves before its copy ends
+pub record Beside (job : Job) (m : ℕ) (cs : Copies) (leave order count : List ℕ) : Type 0 where
   pub few : m ≤ maxTasks
   pub held : Held job m cs
   pub whole : Whole cs
   pub soon : (k : ℕ) → getD (cs .finish) k 0 ≤ maxStart + maxTime
-  pub laid : Laid m cs before last
+  pub laid : Laid (cs .node) (cs .start) (2 * m) order count
   pub leaving : Leaving job (2 * m) cs leave
   pub after : (k : ℕ) → getD (cs .finish) k 0 ≤ getD leave k 0
 
@@ -57,7 +53,7 @@ wantOf j task nodes count into = record { number = j; task = task; nodes = nodes
 
 -- what is wanted is a task of some job, whose links stand so by receiver and whose nodes by group, beside the first `rows` tasks; its senders are
 -- among them
-pub record Wanted (next from delay : List ℕ) (cs : Copies) (leave before last peers : List ℕ) (want : Want) : Type 0 where
+pub record Wanted (next from delay : List ℕ) (cs : Copies) (leave order count peers : List ℕ) (want : Want) : Type 0 where
   pub job : Job
   pub rows : ℕ
   pub sound : Sound job
@@ -69,7 +65,7 @@ pub record Wanted (next from delay : List ℕ) (cs : Copies) (leave before last 
   pub fed : (k : ℕ) → k < links job → link job k .to ≡ want .number → link job k .from < rows
   pub least-most : want .least ≤ latestInput
   pub peers-are : Peers (want .nodes) (want .count) peers
-  pub beside : Beside job rows cs leave before last
+  pub beside : Beside job rows cs leave order count
 
 -- both copies as a row, or the refusal
 abbrev pub pairRow : Pair → Row
@@ -79,24 +75,25 @@ unfoldable pub attempted : Placing → Attempt Row
 attempted (At x) = placed (pairRow x)
 attempted (Nowhere r) = refused r
 
--- the pair can be stored as task j, and begin chains
+-- the pair can be stored as task j, and is on nodes of a rack
 abbrev pub Bookable : Copies → ℕ → Pair → Type 0
 Bookable cs j x = Whole cs × (2 * j + 1 < copyCount)
 
-pub record Chainable (j : ℕ) (x : Pair) : Type 0 where
+pub record OnRack (j : ℕ) (x : Pair) : Type 0 where
   pub room : 2 * j + 1 < copyCount
   pub primary : x .primary .node < maxNodes
   pub backup : x .backup .node < maxNodes
 
--- the chains have it too
-abbrev pub ChainedUp : ℕ → Pair → List ℕ → List ℕ → List ℕ → List ℕ → Type 0
-ChainedUp j x last before last' before' =
-    (key : ℕ → ℕ) → key (2 * j) ≡ x .primary .node → key (2 * j + 1) ≡ x .backup .node
-    → Chained key maxNodes copyCount (2 * j) last before → Chained key maxNodes copyCount (2 * (j + 1)) last' before'
+-- the entries of task j can be laid out behind those before it
+pub record Next (node start : List ℕ) (j : ℕ) (order count : List ℕ) : Type 0 where
+  pub room : 2 * j + 1 < copyCount
+  pub primary : nodeAt node (2 * j) < maxNodes
+  pub backup : nodeAt node (2 * j + 1) < maxNodes
+  pub laid : Laid node start (2 * j) order count
 
 -- when the results of both leave, on these nodes, can be noted, and is
 pub record Departing (nodes : List Node) (j : ℕ) (x : Pair) : Type 0 where
-  pub chainable : Chainable j x
+  pub on-rack : OnRack j x
   pub primary-fits : leaveBy nodes (x .primary) < 4_294_967_296
   pub backup-fits : leaveBy nodes (x .backup) < 4_294_967_296
 
@@ -114,12 +111,12 @@ pub record Booked (j : ℕ) (x : Pair) (cs r : Copies) : Type 0 where
   pub other-set : (k : ℕ) → (k ≡ 2 * j → ⊥) → (k ≡ 2 * j + 1 → ⊥) → setAt r k ≡ setAt cs k
 
 -- after the first j tasks, with the job's links by receiver
-pub record Planning (job : Job) (net : Net) (j : ℕ) (cs : Copies) (leave before last : List ℕ) : Type 0 where
+pub record Planning (job : Job) (net : Net) (j : ℕ) (cs : Copies) (leave order count : List ℕ) : Type 0 where
   pub sound : Sound job
   pub sent : Sent (job .links) (links job) (net .last) (net .next) (net .from) (net .delay)
   pub within : j ≤ tasks job
   pub is : placeTasks job anywhere j ≡ placed (rowOf cs)
-  pub beside : Beside job j cs leave before last
+  pub beside : Beside job j cs leave order count
 
 -- the places of the first n tasks, whose copies have these nodes and starts, and the plan that has them
 abbrev pub placeAt : List ℕ → List ℕ → ℕ → Place

@@ -5,7 +5,7 @@ use crate::senders::by_receiver;
 use crate::task::Placing;
 use crate::task::Want;
 use crate::task::book;
-use crate::task::chain_up;
+use crate::task::lay_both;
 use crate::task::place_task;
 use crate::task::send_off;
 use copies::table::Copies;
@@ -52,8 +52,8 @@ fn all_planned(plan: Plan) -> Planned
 }
 
 // The whole plan: tasks go by number. The columns have short names, so that each call stands on one line: a link comes `by` a task with a `lag`, and the
-// next to its receiver is `nx`; a copy is `on` a node, to `go` at a start `to` a finish, its result `off` the node later; chains of copies lead `up` from
-// `hi`; the nodes of a group are its `kin`.
+// next to its receiver is `nx`; a copy is `on` a node, to `go` at a start `to` a finish, its result `off` the node later; the copies of each node stand
+// in line by time in `ln`, `no` of them; the nodes of a group are its `kin`.
 pub fn plan_job(job: Job) -> Planned
     requires { ⌜ Sound job ⌝ }
     ensures { λ r. ⌜ r ≡ planned (planner job) ⌝ }
@@ -71,20 +71,20 @@ pub fn plan_job(job: Job) -> Planned
     let mut to = [0u32; Copies::COUNT];
     let mut off = [0u32; Copies::COUNT];
     let mut set = [0u32; Copies::COUNT];
-    let mut up = [0usize; Copies::COUNT];
-    let mut hi = [0usize; Job::MAX_NODES];
+    let mut ln = [0u8; Copies::SPOTS];
+    let mut no = [0usize; Job::MAX_NODES];
     let mut kin = [0u32; Copies::COUNT];
     by_group(job.nodes, count, &mut kin);
     let mut j: usize = 0;
     while j < n {
         let w = Want::of(j, job.tasks[j], job.nodes, count, into[j] as usize);
-        let x = place_task(&nx, &by, &lag, &on, &go, &to, &off, &set, &up, &hi, &kin, w);
+        let x = place_task(&nx, &by, &lag, &on, &go, &to, &off, &set, &ln, &no, &kin, w);
         match x {
             Placing::Nowhere(r) => return unplanned(r),
             Placing::At(pair) => {
                 book(&mut on, &mut go, &mut to, &mut set, j, pair);
                 send_off(&mut off, job.nodes, j, pair);
-                chain_up(&mut up, &mut hi, j, pair);
+                lay_both(&on, &go, &mut ln, &mut no, j);
             }
         }
         j += 1;

@@ -10,19 +10,19 @@ use Rattle.planner.proofs.SenderLaws.{sendable, sent-start}
 use Rattle.planner.proofs.PeerLaws.{job-groups, peers-start}
 use Rattle.planner.proofs.SentLaws.{into-few}
 use Rattle.planner.proofs.WantLaws.{asked}
-use Rattle.planner.proofs.TaskLaws.{bookable, departing, plan-start, plan-more, plan-stop, plan-done}
+use Rattle.planner.proofs.TaskLaws.{bookable, departing, lays-next, plan-start, plan-more, plan-stop, plan-done}
 use borrow.Author.Needs.{needs}
 use Rattle.planner.proofs.plan_job.Statement.{statement}
 use Rattle.planner.proofs.plan_job.Tie as tie
 
 abbrev Inv-loop : tie.InvT-loop
-Inv-loop job n count into next from delay m node₀ start₀ finish₀ leave₀ sets₀ before₀ last₀ peers j₀
-    node start finish leave sets before last j =
-    Planning job (record { last = into; next = next; from = from; delay = delay }) j (table node start finish sets) leave before last
+Inv-loop job n count into next from delay m node₀ start₀ finish₀ leave₀ sets₀ order₀ held₀ peers j₀
+    node start finish leave sets order held j =
+    Planning job (record { last = into; next = next; from = from; delay = delay }) j (table node start finish sets) leave order held
 
 abbrev μ-loop : tie.MeasureT-loop
-μ-loop job n count into next from delay m node₀ start₀ finish₀ leave₀ sets₀ before₀ last₀ peers j₀
-    node start finish leave sets before last j = n - j
+μ-loop job n count into next from delay m node₀ start₀ finish₀ leave₀ sets₀ order₀ held₀ peers j₀
+    node start finish leave sets order held j = n - j
 
 by-receiver-requires : tie.Need-by-receiver-requires Inv-loop μ-loop
 by-receiver-requires c κs =
@@ -83,16 +83,17 @@ send-off-requires c κs =
     departing _ _ _ _ _ _ _ (turn at-of .before .loop .inv) (turn at-of .loop-test .taken) _ (grouped at-of .by-group .ensures) _ (at-of .of .ensures) _
     (at-x2 .before .before .place-task .ensures) _ (at-x2 .x2 .given .1)
 
-chain-up-requires : tie.Need-chain-up-requires Inv-loop μ-loop
-chain-up-requires c κs =
-    let at-x2 = c .before .before .before .before .before .before .before .before .before .before .before in
+lay-both-requires : tie.Need-lay-both-requires Inv-loop μ-loop
+lay-both-requires c κs =
+    let at-book = c .before .before .before .before .before .before .before in
+    let at-x2 = at-book .before .before .before .before .before .before in
     let at-of = wants (at-x2 .before .before) in
-    departing _ _ _ _ _ _ _ (turn at-of .before .loop .inv) (turn at-of .loop-test .taken) _ (grouped at-of .by-group .ensures) _ (at-of .of .ensures) _
-    (at-x2 .before .before .place-task .ensures) _ (at-x2 .x2 .given .1) .chainable
+    lays-next _ _ _ _ _ _ _ (turn at-of .before .loop .inv) (turn at-of .loop-test .taken) _ (grouped at-of .by-group .ensures) _ (at-of .of .ensures) _
+    (at-x2 .before .before .place-task .ensures) _ (at-x2 .x2 .given .1) _ (at-book .book .ensures)
 
 -- where all is stored: the turn
-abbrev stored : tie.After-chain-up Inv-loop μ-loop → tie.In-loop Inv-loop μ-loop
-stored c = turn (wants (c .before .before .before .before .before .before .before .before .before .before .before .before .before .before))
+abbrev stored : tie.After-lay-both Inv-loop μ-loop → tie.In-loop Inv-loop μ-loop
+stored c = turn (wants (c .before .before .before .before .before .before .before .before .before .before .before .before .before .before .before .before))
 
 add-j : tie.Need-add-j Inv-loop μ-loop
 add-j c = omega (arith, stored c .loop-test .taken, stored c .before .loop .inv .sound .tasks-most)
@@ -102,13 +103,13 @@ loop-less c = omega (arith, stored c .loop-test .taken)
 
 loop-again : tie.Need-loop-again Inv-loop μ-loop
 loop-again c =
-    let at-send-off = c .before .before .before in
+    let at-send-off = c .before .before .before .before .before in
     let at-book = at-send-off .before .before .before in
     let at-x2 = at-book .before .before .before .before .before .before in
     let at-of = wants (at-x2 .before .before) in
     plan-more _ _ _ _ _ _ _ (turn at-of .before .loop .inv) (turn at-of .loop-test .taken) _ (grouped at-of .by-group .ensures) _ (at-of .of .ensures) _
     (at-x2 .before .before .place-task .ensures) _ (at-x2 .x2 .given .1) _ (at-book .book .ensures) _ _ _ (at-send-off .send-off .ensures)
-    (c .chain-up .ensures)
+    (c .lay-both .ensures)
 
 plan-of-requires : tie.Need-plan-of-requires Inv-loop μ-loop
 plan-of-requires c κs = c .before .before .before .loop .inv .sound .tasks-most
@@ -124,5 +125,5 @@ plan-job-spec =
     (tie.spec Inv-loop μ-loop (λ c. search needs) (λ c. search needs) (λ c. search needs) by-receiver-requires by-group-requires loop-holds
     (λ c. search needs)
     (λ c. search needs) (λ c. search needs) (λ c. search needs) cast-of (λ c κs. search needs) place-task-requires (λ c. search needs)
-    (λ c κs. search needs) returns (λ c. search needs) book-requires send-off-requires chain-up-requires add-j loop-less loop-again plan-of-requires
+    (λ c κs. search needs) returns (λ c. search needs) book-requires send-off-requires lay-both-requires add-j loop-less loop-again plan-of-requires
     (λ c κs. search needs) returns-2)

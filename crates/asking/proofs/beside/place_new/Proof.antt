@@ -9,20 +9,20 @@ use Rattle.copies.proofs.ListMore.{replicated}
 use Rattle.planner.proofs.SenderLaws.{sent-start}
 use Rattle.planner.proofs.PeerLaws.{job-groups, peers-start}
 use Rattle.asking.specs.Beside.{BesideTo}
-use Rattle.asking.proofs.BesideLaws.{merged-sendable, beside-none, old-few, old-takeable, old-bookable, old-departing, old-more}
+use Rattle.asking.proofs.BesideLaws.{merged-sendable, beside-none, old-few, old-takeable, old-bookable, old-departing, old-next, old-more}
 use Rattle.asking.proofs.BesideLaws.{new-few, new-wanted, new-told}
 use borrow.Author.Needs.{needs}
 use Rattle.asking.proofs.beside.place_new.Statement.{statement}
 use Rattle.asking.proofs.beside.place_new.Tie as tie
 
 abbrev Inv-loop : tie.InvT-loop
-Inv-loop job d plan into next from delay old new m node₀ start₀ finish₀ leave₀ sets₀ before₀ last₀ n list rack j₀
-    node start finish leave sets before last j =
-    BesideTo job plan d into next from delay j (table node start finish sets) leave before last
+Inv-loop job d plan into next from delay old new m node₀ start₀ finish₀ leave₀ sets₀ order₀ count₀ n list rack j₀
+    node start finish leave sets order count j =
+    BesideTo job plan d into next from delay j (table node start finish sets) leave order count
 
 abbrev μ-loop : tie.MeasureT-loop
-μ-loop job d plan into next from delay old new m node₀ start₀ finish₀ leave₀ sets₀ before₀ last₀ n list rack j₀
-    node start finish leave sets before last j =
+μ-loop job d plan into next from delay old new m node₀ start₀ finish₀ leave₀ sets₀ order₀ count₀ n list rack j₀
+    node start finish leave sets order count j =
     tasks job - j
 
 merged-links-requires : tie.Need-merged-links-requires Inv-loop μ-loop
@@ -71,15 +71,16 @@ send-off-requires c κs =
     let at-pair-at = c .before .before .before .before .before .before in
     old-departing _ _ _ _ _ _ _ _ _ _ _ _ (turn at-pair-at .before .loop .inv) (turn at-pair-at .loop-test .taken) _ (at-pair-at .pair-at .ensures)
 
-chain-up-requires : tie.Need-chain-up-requires Inv-loop μ-loop
-chain-up-requires c κs =
-    let at-pair-at = c .before .before .before .before .before .before .before .before .before in
-    old-departing _ _ _ _ _ _ _ _ _ _ _ _ (turn at-pair-at .before .loop .inv) (turn at-pair-at .loop-test .taken) _ (at-pair-at .pair-at .ensures)
-    .chainable
+lay-both-requires : tie.Need-lay-both-requires Inv-loop μ-loop
+lay-both-requires c κs =
+    let at-book = c .before .before .before .before .before .before in
+    let at-pair-at = at-book .before .before .before .before .before in
+    old-next _ _ _ _ _ _ _ _ _ _ _ _ (turn at-pair-at .before .loop .inv) (turn at-pair-at .loop-test .taken) _ (at-pair-at .pair-at .ensures) _
+    (at-book .book .ensures)
 
 -- where all is stored: both copies
-abbrev copied : tie.After-chain-up Inv-loop μ-loop → tie.After-pair-at Inv-loop μ-loop
-copied c = c .before .before .before .before .before .before .before .before .before .before
+abbrev copied : tie.After-lay-both Inv-loop μ-loop → tie.After-pair-at Inv-loop μ-loop
+copied c = c .before .before .before .before .before .before .before .before .before .before .before .before
 
 add-j : tie.Need-add-j Inv-loop μ-loop
 add-j c = let at-turn = turn (copied c) in omega (arith, at-turn .loop-test .taken, at-turn .before .loop .inv .asking .sound .tasks-most)
@@ -89,11 +90,11 @@ loop-less c = omega (arith, turn (copied c) .loop-test .taken)
 
 loop-again : tie.Need-loop-again Inv-loop μ-loop
 loop-again c =
-    let at-send-off = c .before .before .before in
+    let at-send-off = c .before .before .before .before .before in
     let at-book = at-send-off .before .before in
     let at-turn = turn (copied c) in
     old-more _ _ _ _ _ _ _ _ _ _ _ _ (at-turn .before .loop .inv) (at-turn .loop-test .taken) _ (copied c .pair-at .ensures) _
-    (at-book .book .ensures) _ _ _ (at-send-off .send-off .ensures) (c .chain-up .ensures)
+    (at-book .book .ensures) _ _ _ (at-send-off .send-off .ensures) (c .lay-both .ensures)
 
 by-group-requires : tie.Need-by-group-requires Inv-loop μ-loop
 by-group-requires c κs = (job-groups _ (c .before .before .before .loop .inv .asking .sound), peers-start _ _ refl)
@@ -126,5 +127,5 @@ place-new-spec =
     (tie.spec Inv-loop μ-loop (λ c. search needs) (λ c. search needs) merged-links-requires add-m by-receiver-requires
     (λ c. search needs) loop-holds (λ c. search needs) (λ c. search needs) cast-at (λ c. search needs) (λ c. search needs)
     (λ c. search needs) (λ c. search needs) (λ c. search needs) (λ c. let on = array-copy-out-own c in search needs) array-copy-out-own
-    pair-at-requires book-requires send-off-requires chain-up-requires add-j loop-less loop-again (λ c. search needs) by-group-requires
+    pair-at-requires book-requires send-off-requires lay-both-requires add-j loop-less loop-again (λ c. search needs) by-group-requires
     (λ c. search needs) (λ c. search needs) cast-of (λ c κs. search needs) place-task-requires returns)

@@ -1,5 +1,6 @@
 -- `judge::tasks::place_copies` meets its contract.
 use Prim.Native.Nat.{_+_, _*_, _-_, _<_}
+use mathlib.Core.Path.{ap}
 use native.Mathlib.Omega.{arith}
 use Rattle.reader.specs.declared.job.Job.{Job}
 use Rattle.reader.specs.Entries.{emptyJob}
@@ -21,12 +22,10 @@ abbrev μ-loop : tie.MeasureT-loop
 
 -- the copies, from where all rules are noted, the turn, and the room that it has
 abbrev copied : tie.After-noted4 Inv-loop μ-loop → tie.After-copy-of2 Inv-loop μ-loop
-copied c =
-    let at-noted2 = c .before .before .before .before .before .before .before in
-    at-noted2 .before .before .before .before .before .before .before .before .before .before
+copied c = c .before .before .before .before .before .before .before .before .before .before .before .before .before .before .before
 
 abbrev turn : tie.After-noted4 Inv-loop μ-loop → tie.In-loop Inv-loop μ-loop
-turn c = copied c .before .before .before .before
+turn c = copied c .before .before .before .before .before .before .before .before
 
 room : (c : tie.After-noted4 Inv-loop μ-loop) → 2 * turn c .before .loop .j + 1 < copyCount
 room c = omega (arith, turn c .loop-test .taken, turn c .before .before .pre .0 .few)
@@ -34,19 +33,42 @@ room c = omega (arith, turn c .loop-test .taken, turn c .before .before .pre .0 
 loop-holds : tie.Need-loop-holds Inv-loop μ-loop
 loop-holds c = λ job. placing-start _ _ _ _ (c .pre .1) (c .pre .2)
 
+element-copy-out-copy-of : tie.Need-element-copy-out-copy-of Inv-loop μ-loop
+element-copy-out-copy-of c =
+    let turn = c .before .before .before .before in
+    turn .before .before .pre .0 .primary _ (turn .loop-test .taken) .on
+
 copy-of-requires : tie.Need-copy-of-requires Inv-loop μ-loop
-copy-of-requires c κs = c .before .before .before .before .pre .0 .primary _ (c .before .before .loop-test .taken)
+copy-of-requires c κs =
+    let turn = c .before .before .before .before .before in
+    turn .before .before .pre .0 .primary _ (turn .loop-test .taken) .ends
+
+element-copy-out-copy-of-2 : tie.Need-element-copy-out-copy-of-2 Inv-loop μ-loop
+element-copy-out-copy-of-2 c =
+    let turn = c .before .before .before .before .before .before in
+    turn .before .before .pre .0 .backup _ (turn .loop-test .taken) .on
 
 copy-of-requires-2 : tie.Need-copy-of-requires-2 Inv-loop μ-loop
-copy-of-requires-2 c κs = c .before .before .before .before .before .pre .0 .backup _ (c .before .before .before .loop-test .taken)
+copy-of-requires-2 c κs =
+    let turn = c .before .before .before .before .before .before .before in
+    turn .before .before .pre .0 .backup _ (turn .loop-test .taken) .ends
+
+array-copy-out-own : tie.Need-array-copy-out-own Inv-loop μ-loop
+array-copy-out-own c =
+    let at-copy-of = c .before .before .before in
+    omega (arith, ap (λ x. x .node) (at-copy-of .copy-of .ensures), element-copy-out-copy-of (at-copy-of .before .before))
+
+array-copy-out-other : tie.Need-array-copy-out-other Inv-loop μ-loop
+array-copy-out-other c =
+    let at-copy-of2 = c .before .before .before in
+    omega (arith, ap (λ x. x .node) (at-copy-of2 .copy-of2 .ensures), element-copy-out-copy-of-2 (at-copy-of2 .before .before))
 
 add-noted : tie.Need-add-noted Inv-loop μ-loop
 add-noted c =
-    let at-noted = c .before .before .before .before .before in
-    let at-copy-of = at-noted .before .before .before .before .before .before .before .before in
-    let at-loop-test = at-copy-of .before .before .before in
+    let at-copy-of = c .before .before .before .before .before .before .before .before .before .before .before .before .before in
+    let at-loop-test = at-copy-of .before .before .before .before .before .before in
     let fits = at-loop-test .before .before .pre .0 in
-    omega (arith, detect-fits (tasked emptyJob _ _ _) _ fits _ (at-loop-test .loop-test .taken) _ (at-copy-of .copy-of .ensures .0))
+    omega (arith, detect-fits (tasked emptyJob _ _ _) _ fits _ (at-loop-test .loop-test .taken) _ (at-copy-of .copy-of .ensures))
 
 mul-k : tie.Need-mul-k Inv-loop μ-loop
 mul-k c = omega (arith, room c)
@@ -60,7 +82,7 @@ add-leave c =
     let at-copy-of2 = copied (all-noted c) in
     let fits = turn (all-noted c) .before .before .pre .0 in
     let low = turn (all-noted c) .loop-test .taken in
-    let leaves = leaves-soon (tasked emptyJob _ _ _) _ fits _ low _ _ (at-copy-of2 .before .copy-of .ensures .0) (at-copy-of2 .copy-of2 .ensures .0) in
+    let leaves = leaves-soon (tasked emptyJob _ _ _) _ fits _ low _ _ (at-copy-of2 .before .before .copy-of .ensures) (at-copy-of2 .copy-of2 .ensures) in
     omega (arith, leaves .0)
 
 add-leave-2 : tie.Need-add-leave-2 Inv-loop μ-loop
@@ -69,7 +91,7 @@ add-leave-2 c =
     let at-copy-of2 = copied at-noted4 in
     let fits = turn at-noted4 .before .before .pre .0 in
     let low = turn at-noted4 .loop-test .taken in
-    let leaves = leaves-soon (tasked emptyJob _ _ _) _ fits _ low _ _ (at-copy-of2 .before .copy-of .ensures .0) (at-copy-of2 .copy-of2 .ensures .0) in
+    let leaves = leaves-soon (tasked emptyJob _ _ _) _ fits _ low _ _ (at-copy-of2 .before .before .copy-of .ensures) (at-copy-of2 .copy-of2 .ensures) in
     omega (arith, leaves .1)
 
 put-requires : tie.Need-put-requires Inv-loop μ-loop
@@ -85,7 +107,7 @@ bit-of-requires c κs =
     let at-noted4 = c .before .before .before .before .before .before .before .before .before .before .before .before .before in
     let fits = turn at-noted4 .before .before .pre .0 in
     let low = turn at-noted4 .loop-test .taken in
-    omega (arith, group-fits (tasked emptyJob _ _ _) _ fits _ low _ (copied at-noted4 .before .copy-of .ensures .0))
+    omega (arith, group-fits (tasked emptyJob _ _ _) _ fits _ low _ (copied at-noted4 .before .before .copy-of .ensures))
 
 put-requires-2 : tie.Need-put-requires-2 Inv-loop μ-loop
 put-requires-2 c κs =
@@ -104,15 +126,13 @@ loop-again : tie.Need-loop-again Inv-loop μ-loop
 loop-again c =
     let at-put = c .before .before .before .before .before .before in
     let at-noted4 = at-put .before .before .before .before .before .before .before .before .before in
-    let at-noted3 = at-noted4 .before .before .before in
-    let at-noted2 = at-noted3 .before .before .before .before in
-    let at-noted = at-noted2 .before .before .before in
-    let at-copy-of2 = at-noted .before .before .before .before .before .before .before in
-    let at-loop-test = at-copy-of2 .before .before .before .before in
-    λ job. placing-more _ _ (at-loop-test .before .before .pre .0) _ _ _ _ _ _ _ (at-loop-test .before .loop .inv job) (at-loop-test .loop-test .taken)
-    _ _ (at-copy-of2 .before .copy-of .ensures .0) (at-copy-of2 .copy-of2 .ensures .0) _ _ _ _ (at-noted .noted .ensures) (at-noted2 .noted2 .ensures)
-    (at-noted3 .noted3 .ensures) (at-noted4 .noted4 .ensures) _ (c .before .bit-of .ensures) _ _ (at-put .put .ensures .1)
-    (c .put2 .ensures .1) (c .put2 .ensures .0)
+    let at-noted2 = at-noted4 .before .before .before .before .before .before in
+    let at-copy-of2 = copied at-noted4 in
+    let at-turn = turn at-noted4 in
+    λ job. placing-more _ _ (at-turn .before .before .pre .0) _ _ _ _ _ _ _ (at-turn .before .loop .inv job) (at-turn .loop-test .taken)
+    _ _ (at-copy-of2 .before .before .copy-of .ensures) (at-copy-of2 .copy-of2 .ensures) _ _ _ _ (at-noted2 .before .before .noted .ensures)
+    (at-noted2 .noted2 .ensures) (at-noted4 .before .before .noted3 .ensures) (at-noted4 .noted4 .ensures) _ (c .before .bit-of .ensures) _ _
+    (at-put .put .ensures .1) (c .put2 .ensures .1) (c .put2 .ensures .0)
 
 returns : tie.Need-returns Inv-loop μ-loop
 returns c =
@@ -122,9 +142,12 @@ returns c =
 pub place-copies-spec : {M : Type 1} → statement M
 place-copies-spec =
     tie.close
-    (tie.spec Inv-loop μ-loop loop-holds (λ c. search needs) (λ c. search needs) (λ c. search needs) (λ c. search needs) copy-of-requires
-    copy-of-requires-2 (λ c. search needs) (λ c. search needs) (λ c. search needs) (λ c. search needs) (λ c. search needs) (λ c. search needs)
-    (λ c κs. search needs) (λ c κs. search needs) add-noted (λ c κs. search needs) (λ c κs. search needs) mul-k
+    (tie.spec Inv-loop μ-loop loop-holds (λ c. search needs) (λ c. search needs) (λ c. search needs) (λ c. search needs) (λ c. search needs)
+    (λ c. search needs) (λ c. omega (arith, element-copy-out-copy-of c)) element-copy-out-copy-of copy-of-requires
+    (λ c. omega (arith, element-copy-out-copy-of-2 c)) element-copy-out-copy-of-2 copy-of-requires-2
+    (λ c. search needs) (λ c. omega (arith, array-copy-out-own c)) array-copy-out-own
+    (λ c. search needs) (λ c. omega (arith, array-copy-out-other c)) array-copy-out-other (λ c κs. search needs) (λ c κs. search needs)
+    add-noted (λ c κs. search needs) (λ c κs. search needs) mul-k
     add-leave (λ c. omega (arith, room (all-noted c))) (λ c. omega (arith, room (all-noted c))) add-leave-2
     (λ c. omega (arith, room (all-noted (c .before .before)))) (λ c. omega (arith, room (all-noted (c .before .before))))
     (λ c. omega (arith, room (all-noted (c .before .before)))) put-requires add-put bit-of-requires put-requires-2 add-j loop-less loop-again

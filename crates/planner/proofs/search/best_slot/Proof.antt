@@ -1,5 +1,6 @@
 -- `planner::search::best_slot` meets its contract.
 use Prim.Native.Nat.{_-_}
+use mathlib.Core.List.{[]}
 use mathlib.Core.Logic.{⊎-elim}
 use mathlib.Core.Path.{sym, _∙_}
 use native.Mathlib.Omega.{arith}
@@ -10,10 +11,10 @@ use Rattle.planner.proofs.search.best_slot.Statement.{statement}
 use Rattle.planner.proofs.search.best_slot.Tie as tie
 
 abbrev Inv-loop : tie.InvT-loop
-Inv-loop node start finish sets before last search task ready nodes best₀ n₀ best n = Best (table node start finish sets) before last search n best
+Inv-loop start finish sets order count search task ready nodes best₀ n₀ best n = Best (table [] start finish sets) order count search n best
 
 abbrev μ-loop : tie.MeasureT-loop
-μ-loop node start finish sets before last search task ready nodes best₀ n₀ best n = nodes - n
+μ-loop start finish sets order count search task ready nodes best₀ n₀ best n = nodes - n
 
 nowhere-requires : tie.Need-nowhere-requires Inv-loop μ-loop
 nowhere-requires c κs = c .before .before .pre .deadline
@@ -31,25 +32,19 @@ may-run-requires c κs =
     let at-pre = c .before .before .before .before .before .before in
     omega (arith, c .before .loop-test .taken, at-pre .pre .nodes-most)
 
-element-copy-out-t27 : tie.Need-element-copy-out-t27 Inv-loop μ-loop
-element-copy-out-t27 c =
+element-copy-out-t26 : tie.Need-element-copy-out-t26 Inv-loop μ-loop
+element-copy-out-t26 c =
     let at-loop-test = c .before .before .before in
     let at-pre = at-loop-test .before .before .before .before .before in
     omega (arith, at-loop-test .loop-test .taken, at-pre .pre .nodes-most)
 
-first-free-requires : tie.Need-first-free-requires Inv-loop μ-loop
-first-free-requires c κs =
+better-requires : tie.Need-better-requires Inv-loop μ-loop
+better-requires c κs =
     let at-if1 = c .before .before .before in
     let at-loop-test = at-if1 .before .before .before in
     let at-pre = at-loop-test .before .before .before .before .before in
     asked _ _ _ _ (at-pre .pre) _ _ (at-loop-test .before .loop .inv) (at-loop-test .loop-test .taken)
     (sym (at-if1 .before .may-run .ensures) ∙ at-if1 .if1 .taken) _ (start-at _ _ _ _ _ (c .before .ready-on .ensures) (c .later .ensures))
-
-sooner-requires : tie.Need-sooner-requires Inv-loop μ-loop
-sooner-requires c κs =
-    let at-loop-test = c .before .before .before .before .before .before .before in
-    let at-pre = at-loop-test .before .before .before .before .before in
-    (c .first-free .ensures .0, at-pre .pre .run _ (at-loop-test .loop-test .taken))
 
 loop-again : tie.Need-loop-again Inv-loop μ-loop
 loop-again c =
@@ -57,7 +52,7 @@ loop-again c =
     let at-pre = at-loop-test .before .before .before .before .before in
     ⊎-elim
     (λ w. best-next _ _ _ _ (at-pre .pre) _ _ (at-loop-test .before .loop .inv) (at-loop-test .loop-test .taken)
-    (sym (c .before .may-run .ensures) ∙ w .0 .taken) _ (start-at _ _ _ _ _ (w .2 .ensures) (w .3 .ensures)) _ _ (w .4 .ensures .1) (w .6 ∙ w .5 .ensures))
+    (sym (c .before .may-run .ensures) ∙ w .0 .taken) _ (start-at _ _ _ _ _ (w .2 .ensures) (w .3 .ensures)) _ (w .5 ∙ w .4 .ensures))
     (λ w. best-passed _ _ _ _ (at-pre .pre) _ _ (at-loop-test .before .loop .inv) (at-loop-test .loop-test .taken) _
     (sym (c .before .may-run .ensures) ∙ w .0 .left) (w .1))
     (c .if1 .came)
@@ -69,5 +64,5 @@ pub best-slot-spec : {M : Type 1} → statement M
 best-slot-spec =
     tie.close
     (tie.spec Inv-loop μ-loop nowhere-requires loop-holds (λ c. search needs) element-copy-out-run (λ c. search needs) may-run-requires
-    (λ c. search needs) element-copy-out-t27 (λ c. search needs) (λ c. search needs) (λ c κs. search needs) (λ c κs. search needs)
-    first-free-requires (λ c. search needs) sooner-requires (λ c. search needs) (λ c. search needs) loop-again (λ c κs. search needs) returns)
+    (λ c. search needs) (λ c. search needs) element-copy-out-t26 (λ c. search needs) (λ c κs. search needs) (λ c κs. search needs)
+    better-requires (λ c. search needs) (λ c. search needs) loop-again (λ c κs. search needs) returns)
