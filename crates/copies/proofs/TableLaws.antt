@@ -34,7 +34,8 @@ halves P j primary backup k h =
       | no q ↦ let e : 2 * j ≡ k = omega arith in subst P e primary
     ]
 
-pub each-entry : (P : ℕ → Type 0) (n : ℕ) → ((j : ℕ) → j < n → P (2 * j)) → ((j : ℕ) → j < n → P (2 * j + 1)) → (k : ℕ) → k < 2 * n → P k
+pub each-entry : (P : ℕ → Type 0) (n : ℕ) → ((j : ℕ) → j < n → P (2 * j)) → ((j : ℕ) → j < n → P (2 * j + 1))
+    → (k : ℕ) → k < 2 * n → P k
 each-entry P n primary backup k p = halves P (k / 2) (primary (k / 2) (omega arith)) (backup (k / 2) (omega arith)) k refl
 
 -- the four stores

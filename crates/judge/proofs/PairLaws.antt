@@ -80,7 +80,8 @@ module _ (cs : Copies) where
     behind-is (b ∷ rest) noted h =
         split (leb (entry cs a .finish) (entry cs b .start))
         (λ e. let p = leb-true (entry cs a .finish) (entry cs b .start) e in
-        let after : (i : ℕ) → sooner (startAt (cs .start)) b i ≡ true → keeps x a i ≡ true = λ i s. beyond i (omega (arith, sooner-starts _ b i s)) in
+        let after : (i : ℕ) → sooner (startAt (cs .start)) b i ≡ true → keeps x a i ≡ true =
+        λ i s. beyond i (omega (arith, sooner-starts _ b i s)) in
         rw e (sym (ap (λ t. leb x noted and t) (and-i _ _ (beyond b p) (all-map _ _ after rest (and-l _ _ h))) ∙ and-yes _)))
         (λ e. rw e (behind-is rest _ (and-r _ _ h)
         ∙ ap (λ t. t and allOf (keeps x a) rest) (noted-is b noted (leb-false (entry cs a .finish) (entry cs b .start) e)) ∙ and-join _ _ _))

@@ -47,7 +47,8 @@ note-old true false noted pair p e h = refl
 note-old false d noted pair p e h = refl
 
 -- an entry of the spots
-pub filled-low : (order : List ℕ) (from to : ℕ) → Filled order from to → (q e : ℕ) → from ≤ q → q < to → e ≡ getD order q 0 → e < copyCount
+pub filled-low : (order : List ℕ) (from to : ℕ) → Filled order from to → (q e : ℕ) → from ≤ q → q < to
+    → e ≡ getD order q 0 → e < copyCount
 filled-low order from to pre q e p r is = omega (arith, pre .low q p r)
 
 module _ (cs : Copies) where
@@ -114,7 +115,8 @@ module _ (cs : Copies) where
             → next ≡ pairOn cs order count (m + 1)
         unfolding pairOn
         nodes-more next e =
-            e ∙ ap₂ (λ c n. pairWithin cs (spotsFrom order (baseOf m) c) n) (let f : baseOf m + getD count m 0 - baseOf m ≡ getD count m 0 = omega arith in f)
+            e ∙ ap₂ (λ c n. pairWithin cs (spotsFrom order (baseOf m) c) n)
+            (let f : baseOf m + getD count m 0 - baseOf m ≡ getD count m 0 = omega arith in f)
             is ∙ ap (pairOn cs order count) (sym (add-one m))
 
         pub nodes-done : m ≤ maxNodes → maxNodes ≤ m → noted ≡ pairOn cs order count maxNodes

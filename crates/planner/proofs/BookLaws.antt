@@ -23,5 +23,6 @@ stored-booked cs j x half r one then whole =
       other-set = λ k y z. then .other-set k z ∙ one .other-set k y;
     }
 
-pub both-laid : (node start : List ℕ) (j : ℕ) (order count : List ℕ) → Laid node start (2 * j + 1 + 1) order count → Laid node start (2 * (j + 1)) order count
+pub both-laid : (node start : List ℕ) (j : ℕ) (order count : List ℕ) → Laid node start (2 * j + 1 + 1) order count
+    → Laid node start (2 * (j + 1)) order count
 both-laid node start j order count h = let e : 2 * j + 1 + 1 ≡ 2 * (j + 1) = omega arith in subst (λ k. Laid node start k order count) e h

@@ -122,7 +122,8 @@ module _ (cs : Copies) (m run : ℕ) (order : List ℕ) (base to from : ℕ) whe
   unfolding sweep
   sweep-done p s h q = swept-done _ _ _ _ _ p s (h .swept) (λ x. refl) q
 
-pub swept-all : (cs : Copies) (m run : ℕ) (order : List ℕ) (base count from s : ℕ) → s ≡ sweep cs m run (spotsFrom order base (base + count - base)) from
+pub swept-all : (cs : Copies) (m run : ℕ) (order : List ℕ) (base count from s : ℕ)
+    → s ≡ sweep cs m run (spotsFrom order base (base + count - base)) from
     → s ≡ sweep cs m run (spotsFrom order base count) from
 swept-all cs m run order base count from s h =
     let e : base + count - base ≡ count = omega arith in subst (λ c. s ≡ sweep cs m run (spotsFrom order base c) from) e h
@@ -184,12 +185,14 @@ module _ (cs : Copies) (m n run below from : ℕ) (l : List ℕ) where
             | no p ↦ rw (sweep-busy cs m n run l from u (omega arith) q) (and-no (leb from u))
           ]
 
-try-same : (n run : ℕ) (ok good : Copy → Bool) (t : ℕ) → ok (spot n (t - run) run) ≡ good (spot n (t - run) run) → tryAt n run ok t ≡ tryAt n run good t
+try-same : (n run : ℕ) (ok good : Copy → Bool) (t : ℕ) → ok (spot n (t - run) run) ≡ good (spot n (t - run) run)
+    → tryAt n run ok t ≡ tryAt n run good t
 unfolding tryAt
 try-same n run ok good t h = rw h
 
 -- tests that agree
-pub on-node-same : (n run d : ℕ) (ok good : Copy → Bool) → ((s : ℕ) → ok (spot n s run) ≡ good (spot n s run)) → onNode n run d ok ≡ onNode n run d good
+pub on-node-same : (n run d : ℕ) (ok good : Copy → Bool) → ((s : ℕ) → ok (spot n s run) ≡ good (spot n s run))
+    → onNode n run d ok ≡ onNode n run d good
 unfolding onNode
 on-node-same n run d ok good h = ap (first d) (fun-ext each)
   where

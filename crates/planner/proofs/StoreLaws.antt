@@ -50,7 +50,8 @@ beside-start job leave order count o b l =
       };
       whole = record { node = refl; start = refl; finish = refl; set = refl };
       soon = λ k. omega (arith, replicated {A = ℕ} 0 copyCount k);
-      laid = laid-start _ _ order count (ap length b ∙ length-replicate {A = ℕ} spots 0) (ap length l) (λ n. ap (λ x. getD x n 0) l ∙ replicated 0 maxNodes n);
+      laid = laid-start _ _ order count (ap length b ∙ length-replicate {A = ℕ} spots 0) (ap length l)
+          (λ n. ap (λ x. getD x n 0) l ∙ replicated 0 maxNodes n);
       leaving = leaving-start job emptyCopies leave o;
       after = λ k. omega (arith, replicated {A = ℕ} 0 copyCount k);
     }

@@ -55,5 +55,5 @@ first-free-spec =
     add-if1 returns (λ c. omega (arith, low (c .before .before))) (λ c. low (c .before .before))
     (λ c. omega (arith, low (c .before .before .before .before))) (λ c. low (c .before .before .before .before))
     (λ c κs. search needs) (λ c κs. search needs)
-    (λ c. omega (arith, turn-of c .loop-test .taken, turn-of c .before .before .before .before .pre .filled .below)) (λ c. omega (arith, turn-of c .loop-test .taken))
-    loop-again returns-2)
+    (λ c. omega (arith, turn-of c .loop-test .taken, turn-of c .before .before .before .before .pre .filled .below))
+    (λ c. omega (arith, turn-of c .loop-test .taken)) loop-again returns-2)
