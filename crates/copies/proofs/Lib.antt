@@ -8,6 +8,7 @@ pub mod TimelineLaws
 pub mod SpotLaws
 pub mod LayoutLaws
 pub mod PlanLayout
+pub mod LayoutSamples
 pub mod ClashLaws
 pub mod GatherLaws
 pub mod NumberLaws

@@ -2,36 +2,36 @@ use Prim.Native.Nat.{ℕ, _+_, _*_, _-_}
 use mathlib.Core.Path.{refl}
 use mathlib.Core.List.{List}
 use mathlib.Core.Option.{none}
-use lib.ListN.{replicate}
+use lib.ListN.{getD, replicate}
 use native.Mathlib.Omega.{arith}
 use borrow.Author.Needs.{needs}
-use Rattle.reader.specs.declared.job.Job.{Job}
+use Rattle.reader.specs.declared.job.Task.{Task}
 use Rattle.reader.specs.declared.plan.Place.{Place}
 use Rattle.reader.specs.First.{_or-else_}
 use Rattle.reader.specs.Limits.{maxTasks}
-use Rattle.reader.specs.Entries.{nodes, tasks, task, noPlace}
-use Rattle.reader.specs.PlanFile.{placeFault, placeAt, placesFault, placesAt}
+use Rattle.reader.specs.Entries.{noTask, noPlace}
+use Rattle.reader.specs.PlanFile.{placeFault, placeAt, placesAt}
 use Rattle.reader.proofs.Chain.{valued, reads-none, reads-some, reads-value}
 use Rattle.reader.proofs.ReadLoop.{ReadTo, read-start, read-more, read-stop, read-done}
 use Rattle.reader.proofs.plan_file.read_places.Statement.{statement}
 use Rattle.reader.proofs.plan_file.read_places.Tie as tie
 
-abbrev Places : List ℕ → Job → ℕ → List Place → Type 0
-Places file job =
-    ReadTo none (tasks job) (λ j. placeFault file (8 + 16 * j) (nodes job) (task job j .run)) (λ j. placeAt file (8 + 16 * j))
-    (replicate maxTasks noPlace) (tasks job)
+abbrev Places : List ℕ → List Task → ℕ → ℕ → ℕ → List Place → Type 0
+Places file list nodes count =
+    ReadTo none count (λ j. placeFault file (8 + 16 * j) nodes (getD list j noTask .run)) (λ j. placeAt file (8 + 16 * j))
+    (replicate maxTasks noPlace) count
 
 abbrev Inv-loop : tie.InvT-loop
-Inv-loop file job list₀ nodes count j₀ list j = Places file job j list
+Inv-loop file nodes count tasks list₀ j₀ list j = Places file tasks nodes count j list
 
 abbrev μ-loop : tie.MeasureT-loop
-μ-loop file job list₀ nodes count j₀ list j = count - j
+μ-loop file nodes count tasks list₀ j₀ list j = count - j
 
 loop-holds : tie.Need-loop-holds Inv-loop μ-loop
 loop-holds c = read-start _ _ _ _ _ _ refl refl
 
 returns : tie.Need-returns Inv-loop μ-loop
-unfolding placesFault _or-else_
+unfolding _or-else_
 returns c =
     read-stop _ _ _ _ _ _ _ _ (c .before .before .before .before .before .before .loop .inv) (c .before .before .before .before .before .loop-test .taken) (reads-some (c .before .before .read-place .ensures) (c .enum-told2 .given .1)) (c .enum-told2 .given .1)
 
@@ -42,12 +42,12 @@ loop-again c =
     read-more _ _ _ _ _ _ _ _ (c .before .before .before .before .before .before .before .loop .inv) _ (c .before .before .before .before .before .before .loop-test .taken) (reads-none r done) (reads-value r done)
 
 returns-2 : tie.Need-returns-2 Inv-loop μ-loop
-unfolding placesFault placesAt _or-else_
+unfolding placesAt _or-else_
 returns-2 c = valued (λ v. v .1) (read-done _ _ _ _ _ _ _ _ (c .before .loop .inv) (omega arith))
 
 pub read-places-spec : {M : Type 1} → statement M
 read-places-spec =
     tie.close
-    (tie.spec Inv-loop μ-loop (λ c. search needs) (λ c. search needs) loop-holds (λ c. search needs) (λ c. search needs)
+    (tie.spec Inv-loop μ-loop loop-holds (λ c. search needs) (λ c. search needs)
     (λ c. search needs) (λ c. search needs) (λ c κs. search needs) (λ c. search needs) (λ c. search needs) returns (λ c. search needs)
     (λ c. search needs) (λ c. search needs) (λ c. search needs) loop-again returns-2)
