@@ -33,13 +33,16 @@ loop-holds c = read-start _ _ _ _ _ _ refl refl
 returns : tie.Need-returns Inv-loop μ-loop
 unfolding _or-else_
 returns c =
-    read-stop _ _ _ _ _ _ _ _ (c .before .before .before .before .before .before .loop .inv) (c .before .before .before .before .before .loop-test .taken) (reads-some (c .before .before .read-place .ensures) (c .enum-told2 .given .1)) (c .enum-told2 .given .1)
+    let turn = c .before .before .before .before .before in
+    let told = c .enum-told2 .given .1 in
+    read-stop _ _ _ _ _ _ _ _ (turn .before .loop .inv) (turn .loop-test .taken) (reads-some (c .before .before .read-place .ensures) told) told
 
 loop-again : tie.Need-loop-again Inv-loop μ-loop
 loop-again c =
     let r = c .before .before .before .read-place .ensures in
     let done = c .before .enum-told .given .1 in
-    read-more _ _ _ _ _ _ _ _ (c .before .before .before .before .before .before .before .loop .inv) _ (c .before .before .before .before .before .before .loop-test .taken) (reads-none r done) (reads-value r done)
+    let turn = c .before .before .before .before .before .before in
+    read-more _ _ _ _ _ _ _ _ (turn .before .loop .inv) _ (turn .loop-test .taken) (reads-none r done) (reads-value r done)
 
 returns-2 : tie.Need-returns-2 Inv-loop μ-loop
 unfolding placesAt _or-else_

@@ -8,12 +8,17 @@ use Rattle.reader.proofs.plan_file.read_plan.Tie as tie
 
 returns : tie.Need-returns
 returns c =
-    plan-refused _ _ _ (c .no-plan .ensures) (handed (c .before .handed-on .ensures) (c .before .before .enum-told .given .1)) (bad-version _ _ _ (c .before .before .before .before .field .ensures) (c .before .before .enum-told .given .1))
+    let told = c .before .before .enum-told .given .1 in
+    plan-refused _ _ _ (c .no-plan .ensures) (handed (c .before .handed-on .ensures) told)
+    (bad-version _ _ _ (c .before .before .before .before .field .ensures) told)
 
 returns-2 : tie.Need-returns-2
 returns-2 c =
-    plan-refused _ _ _ (c .no-plan2 .ensures) (handed (c .before .handed-on2 .ensures) (c .before .before .enum-told2 .given .1))
-    (bad-count _ _ _ (c .before .before .before .before .before .before .before .before .field .ensures) _ (c .before .before .before .before .before .before .v .given .1) _ (c .before .before .before .before .field2 .ensures) (c .before .before .enum-told2 .given .1))
+    let told = c .before .before .enum-told2 .given .1 in
+    let count = c .before .before .before .before in
+    let version = count .before .before in
+    plan-refused _ _ _ (c .no-plan2 .ensures) (handed (c .before .handed-on2 .ensures) told)
+    (bad-count _ _ _ (version .before .before .field .ensures) _ (version .v .given .1) _ (count .field2 .ensures) told)
 
 returns-3 : tie.Need-returns-3
 unfolding placesFault
