@@ -313,7 +313,8 @@ module _ (next from delay : List ℕ) (cs : Copies) (leave order count peers : L
             e-is b = fed-is set late more b _ (λ m q e. backup-fed job cs (w .rows) (w .beside .held) set (the-row b) faults (link job m) _ (w .fed m q e))
 
             backup-fits : (b : Copy) → b .node < nodes job → b .start < b .finish
-                → fits times order count (backupSearch (want .task) (want .count) late least set barred) b ≡ backupKeepsBeside job (w .rows) (rowOf cs) j p b
+                → fits times order count (backupSearch (want .task) (want .count) late least set barred) b
+                ≡ backupKeepsBeside job (w .rows) (rowOf cs) j p b
             unfolding fits nodeOk freeFrom backupKeeps
             backup-fits b on q =
                 ap₂ (λ x y. x and leb (max (readyOn late (b .node)) least) (b .start) and y) (f-is b on) (g-is b on q)
