@@ -82,6 +82,9 @@ charts: build/seqopchi
 		-o examples/oscilloscope-plan.svg
 	build/seqopchi chart demo/oscilloscope.job demo/passed.plan \
 		--lose $(DEMO_LOSS) -o examples/oscilloscope-loss.svg
+	build/seqopchi chart demo/oscilloscope.job demo/passed.plan \
+		--lose $(DEMO_LOSS) --times examples/friday-times.txt \
+		-o examples/friday-times.svg
 	build/seqopchi pack examples/lessons.txt -o demo/lessons.job
 	build/seqopchi plan demo/lessons.job -o demo/lessons.plan
 	build/seqopchi chart demo/lessons.job demo/lessons.plan \

@@ -12,11 +12,13 @@
  * The description of one more task is its entry as the job's version has it, a link
  * count, and from and delay of each link to it, rising strictly by from. A booking is
  * a description with four numbers behind it: primary node, primary start, backup
- * node, backup start. Neither has a version of its own.
+ * node, backup start. A list of times says how many ticks each copy of a plan took:
+ * for each task in turn its primary's, then its backup's, 8 N bytes. None of these
+ * three has a version of its own.
  *
  * POINTERS. These are the only conditions that a caller has to keep:
- * - A pointer is valid for reading (job, plan, task, booking) or for reading and
- *   writing (out, out_job, out_plan) of as many bytes as the length behind it
+ * - A pointer is valid for reading (job, plan, task, booking, times) or for reading
+ *   and writing (out, out_job, out_plan) of as many bytes as the length behind it
  *   says. The length of one buffer is at most PTRDIFF_MAX, as for any object in C.
  * - places is valid for reading and writing of four numbers and aligned as a
  *   uint32_t is.
@@ -36,16 +38,18 @@
  * read is never written. On a refusal every byte of each output keeps its value;
  * on success every byte behind what is written there keeps its value.
  *
- * READING. "The faults of the job", "of the plan", "of the description" and "of the
- * booking" below are these, in file order, each with its byte offset from the start
- * of that buffer as the first place and 0 as the second. The result does not say
- * which buffer is meant. seqopchi_plan with out_len 0 tells whether a job reads well;
- * where seqopchi_judge gives 0, job and plan have no fault.
+ * READING. "The faults of the job", "of the plan", "of the description", "of the
+ * booking" and "of the list" below are these, in file order, each with its byte offset
+ * from the start of that buffer as the first place and 0 as the second. The result does
+ * not say which buffer is meant. seqopchi_plan with out_len 0 tells whether a job reads
+ * well; where seqopchi_judge gives 0, job and plan have no fault.
  *   1 short       fewer than 4 bytes are left for a number
  *   2 version     a job's version is none of 1 to 4, or a plan's is not 1
  *   3 count       a count is outside its limits, or the plan's count is not N
  *   4 value       any other number is outside its limits; also a link's to
- *                 that is not above its from. A from in a description is below N
+ *                 that is not above its from. A from in a description is below N.
+ *                 A time in a list is from 1 to the listed run time of that copy's
+ *                 task on the node where the plan has that copy
  *   5 link order  a link is not above the one before (offset of its from), by from
  *                 and to in a job, by from in a description or booking; found
  *                 after the link's delay
@@ -53,7 +57,8 @@
  *   7 unable      a copy is placed on a node where its task has run time 0
  *                 (offset of that node); only in a plan or booking
  * 2 arises in neither description nor booking. More links than tasks are no count
- * fault there: up to 512 may be said, and the links then end in 1, 4 or 5.
+ * fault there: up to 512 may be said, and the links then end in 1, 4 or 5. A list has
+ * no other faults than 1, 4 and 6.
  */
 #ifndef SEQOPCHI_H
 #define SEQOPCHI_H
@@ -79,6 +84,8 @@ extern "C" {
 #define SEQOPCHI_MIN_DEADLINE 1
 /* Ready times, deadlines, run times, delays and starts. */
 #define SEQOPCHI_MAX_TIME 1000000
+/* A copy's time in a list, which has its listed run time as the other limit. */
+#define SEQOPCHI_MIN_ACTUAL_TIME 1
 
 /* Lengths in bytes of what is read and written. Those of a job, a description and a
  * booking go by the job's version: the entry of a node (detect time; send time, from
@@ -92,6 +99,7 @@ extern "C" {
     (16 + SEQOPCHI_NODE_BYTES(version) * (nodes) \
      + SEQOPCHI_TASK_BYTES(version, nodes) * (tasks) + 12 * (links))
 #define SEQOPCHI_PLAN_BYTES(tasks) (8 + 16 * (tasks))
+#define SEQOPCHI_TIMES_BYTES(tasks) (8 * (tasks))
 #define SEQOPCHI_REPLAY_BYTES(tasks) (12 * (tasks))
 #define SEQOPCHI_FAULT_SETS_BYTES(tasks) (4 * (tasks))
 #define SEQOPCHI_DESCRIPTION_BYTES(version, nodes, links) \
@@ -100,6 +108,7 @@ extern "C" {
     (SEQOPCHI_DESCRIPTION_BYTES(version, nodes, links) + 16)
 #define SEQOPCHI_MAX_JOB_BYTES 10960 /* of the newest version */
 #define SEQOPCHI_MAX_PLAN_BYTES SEQOPCHI_PLAN_BYTES(SEQOPCHI_MAX_TASKS)
+#define SEQOPCHI_MAX_TIMES_BYTES SEQOPCHI_TIMES_BYTES(SEQOPCHI_MAX_TASKS)
 #define SEQOPCHI_MAX_REPLAY_BYTES SEQOPCHI_REPLAY_BYTES(SEQOPCHI_MAX_TASKS)
 #define SEQOPCHI_MAX_FAULT_SETS_BYTES SEQOPCHI_FAULT_SETS_BYTES(SEQOPCHI_MAX_TASKS)
 /* The longest that read well, of the newest version: with a link from each task. */
@@ -215,6 +224,36 @@ uint64_t seqopchi_replay_loss(const uint8_t *job, size_t job_len,
                               const uint8_t *plan, size_t plan_len,
                               uint32_t group, uint32_t moment,
                               uint8_t *out, size_t out_len);
+
+/* The run of plan with no loss, as seqopchi_replay has it, but each copy takes the time
+ * that the list has for it. It starts when plan says, its result leaves when it ends,
+ * and a backup is still held to its primary's listed finish (rule B). A copy that does
+ * not run has a time in the list too: any within its limits will do. In this order:
+ *   1 to 6        the faults of the job
+ *   1 to 4, 6, 7  the faults of the plan
+ *   1, 4, 6       the faults of the list
+ *   17            out_len is below 12 N; 12 N / 0
+ *   0             the first 12 N bytes of out are three numbers for each task, as
+ *                 seqopchi_replay writes them; a finish is start plus time
+ * With the listed run times as the list it gives what seqopchi_replay gives.
+ */
+uint64_t seqopchi_replay_times(const uint8_t *job, size_t job_len,
+                               const uint8_t *plan, size_t plan_len,
+                               const uint8_t *times, size_t times_len,
+                               uint8_t *out, size_t out_len);
+
+/* The same with every node of group lost at moment, as seqopchi_replay_loss has it: a
+ * copy that started there before moment is cut if its time ends after moment.
+ * As seqopchi_replay_times, and between the faults of the plan and those of the list:
+ *   18  no node of the job is in group; group / 0
+ * For a passed plan and a result of 0 each task has exactly one finished copy,
+ * with a finish from 1 to its deadline, whatever the list.
+ */
+uint64_t seqopchi_replay_times_loss(const uint8_t *job, size_t job_len,
+                                    const uint8_t *plan, size_t plan_len,
+                                    uint32_t group, uint32_t moment,
+                                    const uint8_t *times, size_t times_len,
+                                    uint8_t *out, size_t out_len);
 
 /* The fault sets of the tasks of plan, as seqopchi_judge has them, also where it would
  * refuse the plan. They are worked out task by task, all links that arrive at one task

@@ -3,6 +3,7 @@
 
 #include "groups.h"
 #include "layout.h"
+#include "new_task.h"
 #include "refusal.h"
 
 int read_request(struct request *r, const struct options *o)
@@ -12,7 +13,7 @@ int read_request(struct request *r, const struct options *o)
 
     if (status)
         return status;
-    status = new_task_read(&r->task, o->path[2]);
+    status = source_read(&r->task, o->path[2]);
     if (status == 0) {
         result = seqopchi_judge(r->in.job.data, r->in.job.length,
                                 r->in.plan.data, r->in.plan.length);
@@ -27,7 +28,7 @@ int read_request(struct request *r, const struct options *o)
 void free_request(struct request *r)
 {
     free_input(&r->in);
-    new_task_free(&r->task);
+    source_free(&r->task);
 }
 
 static int asked(const struct request *r, uint32_t places[4])

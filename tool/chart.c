@@ -1,4 +1,4 @@
-/* chart: a plan, or its run with a loss, as a drawing in SVG. */
+/* chart: a plan, or its run with a loss or a list of times, as a drawing in SVG. */
 #include "chart.h"
 
 #include <stdlib.h>
@@ -20,11 +20,28 @@ bool is_lost(const struct chart *c, uint32_t node)
     return c->o->lose && job_group(&c->in->job, node) == c->o->group;
 }
 
+bool is_run(const struct chart *c)
+{
+    return c->run.data;
+}
+
 uint32_t outcome(const struct chart *c, const struct copy *copy)
 {
-    if (!c->run.data)
+    if (!is_run(c))
         return SEQOPCHI_FINISHED;
     return number_at(&c->run, 12 * (size_t)copy->task + (copy->backup ? 4 : 0));
+}
+
+uint32_t end_of(const struct chart *c, const struct copy *copy)
+{
+    if (!c->in->timed)
+        return copy->finish;
+    return copy->start + actual_time(&c->in->times.file, copy);
+}
+
+bool is_sooner(const struct chart *c, const struct copy *copy)
+{
+    return outcome(c, copy) == SEQOPCHI_FINISHED && end_of(c, copy) < copy->finish;
 }
 
 /* The last finish in a row of this copy's lane, among the copies before it. */
@@ -144,6 +161,7 @@ static void open_chart(struct chart *c, const struct input *in, const struct opt
     c->lane = allocated((c->nodes + 1) * sizeof *c->lane);
     c->flags = allocated(c->tasks * sizeof *c->flags);
     c->flag_count = 0;
+    c->legend_row = 0;
     memset(&c->svg, 0, sizeof c->svg);
 }
 
@@ -164,7 +182,7 @@ static void draw(struct chart *c)
     set_left(c);
     set_width(c);
     set_lanes(c, HEAD + place_flags(c));
-    draw_styles(c, c->lane[c->nodes] + AXIS + LEGEND_ROW);
+    draw_styles(c, c->lane[c->nodes] + AXIS + LEGEND_ROW * (c->in->timed ? 2 : 1));
     draw_title(c);
     draw_lanes(c);
     draw_brackets(c);
@@ -186,7 +204,7 @@ int run_chart(const struct options *o)
     if (status)
         return status;
     c.run.data = NULL;
-    if (o->lose)
+    if (o->lose || o->times)
         status = replayed(&c.run, &in, o);
     if (status == 0) {
         open_chart(&c, &in, o);

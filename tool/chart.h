@@ -30,7 +30,7 @@ struct bracket {
 struct chart {
     const struct input *in;
     const struct options *o;
-    struct file run;     /* replay's numbers; null data without a loss */
+    struct file run;     /* replay's numbers; null data for a plan */
     struct copy *copies; /* by node, then start */
     unsigned *row;       /* of each copy, within its node's lane */
     size_t count;
@@ -44,6 +44,7 @@ struct chart {
     double left, right;  /* edges of the plot */
     struct bracket brackets[SEQOPCHI_MAX_NODES / 2];
     size_t bracket_count;
+    unsigned legend_row; /* the one that is drawn; with a list of times there are two */
     struct buffer svg;
 };
 
@@ -51,8 +52,15 @@ double x_of(const struct chart *c, uint32_t tick);
 double bar_top(const struct chart *c, size_t copy);
 bool is_lost(const struct chart *c, uint32_t node);
 
-/* What became of a copy; in a chart without a loss each counts as finished. */
+/* Whether the run is drawn, and not the plan. */
+bool is_run(const struct chart *c);
+
+/* What became of a copy; in a chart of the plan each counts as finished. */
 uint32_t outcome(const struct chart *c, const struct copy *copy);
+
+/* When a finished copy ended: as listed, or sooner by the list of times. */
+uint32_t end_of(const struct chart *c, const struct copy *copy);
+bool is_sooner(const struct chart *c, const struct copy *copy);
 
 /* Finds a place for each flag; gives the height that they take together. */
 double place_flags(struct chart *c);

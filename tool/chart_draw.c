@@ -1,5 +1,6 @@
 /* The parts of a chart. Primaries are dark and backups hatched, what did not run
- * is dashed and a cut is crossed, so that a print in grey tells them apart. */
+ * is dashed, what was not needed is open and a cut is crossed, so that a print in grey
+ * tells them apart. */
 #include "chart.h"
 
 #include "groups.h"
@@ -36,7 +37,11 @@ static const char ready_style[] =
     ".ready{fill:#1f7a3a;stroke:#fff}\n"
     ".wait{stroke:#1f7a3a;stroke-width:2;fill:none}\n";
 
-/* The same of brackets. */
+/* Only with a list of times. */
+static const char open_style[] =
+    ".open{fill:none;stroke:#555;stroke-width:1.2}\n";
+
+/* Only where there is a bracket. */
 static const char supply_style[] =
     ".supply{stroke:#444;stroke-width:2;stroke-linejoin:round;fill:none}\n";
 
@@ -61,6 +66,8 @@ void draw_styles(struct chart *c, double height)
     buffer_add(&c->svg, styles, sizeof styles - 1);
     if (has_ready_marks(c))
         buffer_add(&c->svg, ready_style, sizeof ready_style - 1);
+    if (c->in->timed)
+        buffer_add(&c->svg, open_style, sizeof open_style - 1);
     if (c->bracket_count > 0)
         buffer_add(&c->svg, supply_style, sizeof supply_style - 1);
     buffer_add(&c->svg, patterns, sizeof patterns - 1);
@@ -79,22 +86,37 @@ static unsigned counted(const struct chart *c, uint32_t what, int backup)
     return sum;
 }
 
+static unsigned counted_sooner(const struct chart *c)
+{
+    unsigned sum = 0;
+
+    for (size_t i = 0; i < c->count; i++)
+        sum += is_sooner(c, &c->copies[i]);
+    return sum;
+}
+
 static void add_subtitle(struct chart *c)
 {
-    if (c->o->lose)
+    if (is_run(c))
         buffer_print(&c->svg, "Primaries finished: %u. Backups finished: %u. "
                      "Copies cut: %u. ", counted(c, SEQOPCHI_FINISHED, 0),
                      counted(c, SEQOPCHI_FINISHED, 1),
                      counted(c, SEQOPCHI_CUT, 0) + counted(c, SEQOPCHI_CUT, 1));
+    if (c->in->timed)
+        buffer_print(&c->svg, "Finished sooner than listed: %u. ", counted_sooner(c));
     buffer_print(&c->svg, "The judge's answer to the plan: ");
     verdict_text(&c->svg, &c->in->job, &c->in->plan);
 }
 
 static void add_title(struct chart *c)
 {
-    buffer_print(&c->svg, c->o->lose ? "Run with " : "Plan");
+    buffer_print(&c->svg, is_run(c) ? "Run with " : "Plan");
     if (c->o->lose)
         add_loss(&c->svg, &c->in->job, c->o->group, c->o->tick);
+    else if (is_run(c))
+        buffer_print(&c->svg, "no loss");
+    if (c->in->timed)
+        buffer_print(&c->svg, ", actual times");
     buffer_print(&c->svg, ": %u tasks on %u nodes", (unsigned)c->tasks,
                  (unsigned)c->nodes);
 }
@@ -233,13 +255,13 @@ static void draw_cross(struct chart *c, double x, double y)
 
 /* In the middle of a part of a bar; none where it would not fit. On the dark bar
  * of a primary it is white, on a hatched one it has a white patch. */
-static void draw_label(struct chart *c, const struct copy *copy, double from, double to,
+static bool draw_label(struct chart *c, const struct copy *copy, double from, double to,
                        double top, bool active)
 {
     double middle = (from + to) / 2, wide = copy->task > 9 ? 26 : 19;
 
     if (to - from < wide)
-        return;
+        return false;
     if (active && copy->backup)
         buffer_print(&c->svg, "<rect class=\"label\" x=\"%.1f\" y=\"%.1f\" "
                      "width=\"%.1f\" height=\"16\" rx=\"2\"/>\n", middle - wide / 2,
@@ -247,6 +269,7 @@ static void draw_label(struct chart *c, const struct copy *copy, double from, do
     buffer_print(&c->svg, "<text class=\"%s\" x=\"%.1f\" y=\"%.1f\">%s%u</text>\n",
                  active && !copy->backup ? "on" : "off", middle, top + 15.5,
                  copy->backup ? "B" : "P", (unsigned)copy->task);
+    return true;
 }
 
 /* A hint for those who point at the copy. */
@@ -261,8 +284,10 @@ static void add_hint(struct chart *c, const struct copy *copy)
     if (!copy->backup && has_ready(job_version(job)))
         buffer_print(&c->svg, ", ready %u", (unsigned)job_ready(job, copy->task));
     buffer_print(&c->svg, ", deadline %u", (unsigned)job_deadline(job, copy->task));
-    if (c->o->lose)
+    if (is_run(c))
         buffer_print(&c->svg, ", %s", outcome_word(outcome(c, copy)));
+    if (is_sooner(c, copy))
+        buffer_print(&c->svg, " at %u", (unsigned)end_of(c, copy));
     buffer_print(&c->svg, "</title>\n");
 }
 
@@ -282,6 +307,19 @@ static void draw_cut(struct chart *c, const struct copy *copy, double top)
     draw_cross(c, at, top + BAR / 2.0);
 }
 
+/* The part that ran, in the outline of the listed one; the label stands in it, or where
+ * it is too narrow for that in the open part. */
+static void draw_sooner(struct chart *c, const struct copy *copy, double top)
+{
+    double from = x_of(c, copy->start), to = x_of(c, copy->finish);
+    double at = x_of(c, end_of(c, copy));
+
+    draw_bar(c, "open", from, to, top);
+    draw_bar(c, copy->backup ? "backup" : "primary", from, at, top);
+    if (!draw_label(c, copy, from, at, top, true))
+        draw_label(c, copy, at, to, top, false);
+}
+
 static void draw_copy(struct chart *c, size_t i)
 {
     const struct copy *copy = &c->copies[i];
@@ -294,6 +332,8 @@ static void draw_copy(struct chart *c, size_t i)
     add_hint(c, copy);
     if (outcome(c, copy) == SEQOPCHI_CUT) {
         draw_cut(c, copy, top);
+    } else if (is_sooner(c, copy)) {
+        draw_sooner(c, copy, top);
     } else {
         draw_bar(c, finished ? class : "idle", from, to, top);
         draw_label(c, copy, from, to, top, finished);
@@ -309,7 +349,7 @@ void draw_copies(struct chart *c)
 
 static double legend_top(const struct chart *c)
 {
-    return c->lane[c->nodes] + AXIS - 8;
+    return c->lane[c->nodes] + AXIS - 8 + LEGEND_ROW * c->legend_row;
 }
 
 /* The words of a legend entry; gives the place of the next. */
@@ -328,23 +368,37 @@ static double draw_entry(struct chart *c, double x, const char *class, const cha
     return draw_meaning(c, x + 34, what);
 }
 
+/* What a copy can look like; gives the place of the next entry. */
+static double draw_copy_entries(struct chart *c, double x)
+{
+    if (!is_run(c)) {
+        x = draw_entry(c, x, "primary", "primary");
+        return draw_entry(c, x, "backup", "backup");
+    }
+    x = draw_entry(c, x, "primary", "primary, finished");
+    x = draw_entry(c, x, "backup", "backup, finished");
+    if (c->in->timed)
+        x = draw_entry(c, x, "open", "listed, not needed");
+    if (c->o->lose) {
+        draw_cross(c, x + 6, legend_top(c) + 8);
+        x = draw_meaning(c, x + 18, "cut");
+    }
+    return draw_entry(c, x, "idle", "not started");
+}
+
 void draw_legend(struct chart *c)
 {
     double x = c->left;
 
     if (c->bracket_count > 0)
         draw_meaning(c, draw_supply_sign(c, EDGE + 1, legend_top(c)), "one supply");
-    if (!c->o->lose) {
-        x = draw_entry(c, x, "primary", "primary");
-        x = draw_entry(c, x, "backup", "backup");
-    } else {
-        x = draw_entry(c, x, "primary", "primary, finished");
-        x = draw_entry(c, x, "backup", "backup, finished");
-        draw_cross(c, x + 6, legend_top(c) + 8);
-        x = draw_meaning(c, x + 18, "cut");
-        x = draw_entry(c, x, "idle", "not started");
-        x = draw_entry(c, x, "gone", "node lost");
+    x = draw_copy_entries(c, x);
+    if (c->in->timed) {
+        c->legend_row++;
+        x = c->left;
     }
+    if (c->o->lose)
+        x = draw_entry(c, x, "gone", "node lost");
     x = draw_entry(c, x, "shared", "time shared by backups");
     buffer_print(&c->svg, "<path class=\"pole\" d=\"M%.1f %.1fv16\"/>\n", x + 2,
                  legend_top(c));

@@ -1,11 +1,11 @@
 /* The commands that are little more than a call of the library. */
 #include "commands.h"
 
-#include "groups.h"
 #include "layout.h"
 #include "refusal.h"
+#include "times.h"
 
-#include <stdlib.h>
+#include <string.h>
 
 /* One byte more than the longest file: what follows does not change an answer. */
 enum {
@@ -17,11 +17,14 @@ int read_input(struct input *in, const struct options *o)
 {
     int status;
 
+    memset(in, 0, sizeof *in);
     in->planned = o->paths > 1;
-    in->plan.data = NULL;
+    in->timed = o->times;
     status = file_read(&in->job, o->path[0], JOB_READ);
     if (status == 0 && in->planned)
         status = file_read(&in->plan, o->path[1], PLAN_READ);
+    if (status == 0 && in->timed)
+        status = times_read(&in->times, o->times);
     if (status)
         free_input(in);
     return status;
@@ -46,6 +49,7 @@ void free_input(struct input *in)
 {
     file_free(&in->job);
     file_free(&in->plan);
+    source_free(&in->times);
 }
 
 int finish_output(const struct options *o, struct buffer *text)
@@ -129,92 +133,4 @@ int run_list(const struct options *o)
     free_input(&in);
     written = finish_output(o, &text);
     return written ? written : status;
-}
-
-int replayed(struct file *run, const struct input *in, const struct options *o)
-{
-    const struct file *job = &in->job, *plan = &in->plan;
-    uint64_t result;
-
-    run->name = "the run";
-    run->lines = NULL;
-    run->length = SEQOPCHI_MAX_REPLAY_BYTES;
-    run->data = allocated(run->length);
-    if (o->lose)
-        result = seqopchi_replay_loss(job->data, job->length, plan->data,
-                                      plan->length, o->group, o->tick,
-                                      run->data, run->length);
-    else
-        result = seqopchi_replay(job->data, job->length, plan->data,
-                                 plan->length, run->data, run->length);
-    if (result == 0)
-        return 0;
-    file_free(run);
-    return refused(result, job, plan);
-}
-
-const char *outcome_word(uint32_t outcome)
-{
-    switch (outcome) {
-    case SEQOPCHI_CUT:
-        return "cut";
-    case SEQOPCHI_FINISHED:
-        return "finished";
-    default:
-        return "not started";
-    }
-}
-
-static void add_run(struct buffer *b, const struct file *job, const struct file *run)
-{
-    uint32_t tasks = job_tasks(job);
-
-    buffer_print(b, "task  primary      backup        finish  deadline\n");
-    for (uint32_t task = 0; task < tasks; task++) {
-        uint32_t finish = number_at(run, 12 * (size_t)task + 8);
-
-        buffer_print(b, "%4u  %-11s  %-11s", (unsigned)task,
-                     outcome_word(number_at(run, 12 * (size_t)task)),
-                     outcome_word(number_at(run, 12 * (size_t)task + 4)));
-        if (finish > 0)
-            buffer_print(b, "  %7u", (unsigned)finish);
-        else
-            buffer_print(b, "  %7s", "none");
-        buffer_print(b, "  %8u\n", (unsigned)job_deadline(job, task));
-    }
-}
-
-/* The first line: which loss, and the nodes that it takes where groups are said. */
-static void add_cause(struct buffer *b, const struct file *job, const struct options *o)
-{
-    if (!o->lose)
-        buffer_print(b, "no loss");
-    else
-        add_loss(b, job, o->group, o->tick);
-    if (o->lose && job_has(job, GROUP)) {
-        buffer_print(b, " (");
-        add_nodes_of_group(b, job, o->group);
-        buffer_print(b, ")");
-    }
-    buffer_print(b, "\n");
-}
-
-int run_replay(const struct options *o)
-{
-    struct input in;
-    struct file run;
-    struct buffer text = { NULL, 0, 0 };
-    int status = read_input(&in, o);
-
-    if (status)
-        return status;
-    status = replayed(&run, &in, o);
-    if (status == 0) {
-        add_cause(&text, &in.job, o);
-        add_run(&text, &in.job, &run);
-        file_free(&run);
-        status = finish_output(o, &text);
-    }
-    free_input(&in);
-    return status;
 }

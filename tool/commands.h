@@ -2,7 +2,7 @@
 #ifndef TOOL_COMMANDS_H
 #define TOOL_COMMANDS_H
 
-#include "new_task.h"
+#include "source.h"
 
 /* What stood on the command line behind the command's name. */
 struct options {
@@ -10,7 +10,8 @@ struct options {
     int paths;
     const char *output;        /* "-" where none was given */
     const char *second_output; /* of a command that has two, else null */
-    const char *job;           /* null where none was given */
+    const char *job, *plan;    /* beside a text; null where none was given */
+    const char *times;         /* a list of times, or null */
     bool lose;
     uint32_t group, tick; /* of the loss */
 };
@@ -27,22 +28,23 @@ int run_chart(const struct options *o);
 int run_ask(const struct options *o);
 int run_commit(const struct options *o);
 
-/* A job, and a plan where there is one, as they stand in the files. */
+/* A job, and a plan and a list of times where there are, as they stand in the files. */
 struct input {
     struct file job, plan;
-    bool planned; /* whether a plan was given */
+    struct source times;
+    bool planned, timed; /* whether a plan was given, and a list */
 };
 
 /* Reads the files named on the command line: 0, or 2 after a message. */
 int read_input(struct input *in, const struct options *o);
-/* The same, then asks the library whether they read well: 1 after a refusal. */
+/* The same, then asks the library whether job and plan read well: 1 after a refusal. */
 int read_readable(struct input *in, const struct options *o);
 void free_input(struct input *in);
 
 /* A passed plan with its job, and one more task. */
 struct request {
     struct input in;
-    struct new_task task;
+    struct source task;
 };
 
 /* Reads the three files, has the plan judged and packs a text: 0, 1 after a refusal,
@@ -50,7 +52,8 @@ struct request {
 int read_request(struct request *r, const struct options *o);
 void free_request(struct request *r);
 
-/* The run of a readable plan, from replay: three numbers for each task. */
+/* The run of a plan, from replay: three numbers for each task. 0, or 1 after a
+ * refusal. */
 int replayed(struct file *run, const struct input *in, const struct options *o);
 const char *outcome_word(uint32_t outcome);
 

@@ -1,4 +1,5 @@
-/* What the number at a byte offset of a job, a plan or one more task is. */
+/* What the number at a byte offset of a job, a plan, one more task or a list of times
+ * is. */
 #include "fields.h"
 
 #include "layout.h"
@@ -134,4 +135,15 @@ struct field new_task_field(const struct file *job, const struct file *task, siz
     if (at < description_end(job, task))
         return new_link_field(job, at);
     return place_field(job, at - description_end(job, task), "the place");
+}
+
+struct field times_field(const struct file *job, const struct file *plan, size_t at)
+{
+    struct copy copy = plan_copy(job, plan, (uint32_t)(at / 8), at % 8 > 0);
+    struct field f = field(SEQOPCHI_MIN_ACTUAL_TIME, copy.finish - copy.start, "");
+
+    snprintf(f.name, sizeof f.name, "the time of the %s of task %u on node %u",
+             copy.backup ? "backup" : "primary", (unsigned)copy.task,
+             (unsigned)copy.node);
+    return f;
 }

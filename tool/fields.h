@@ -1,4 +1,5 @@
-/* What the number at a byte offset of a job, a plan or one more task is. */
+/* What the number at a byte offset of a job, a plan, one more task or a list of times
+ * is. */
 #ifndef TOOL_FIELDS_H
 #define TOOL_FIELDS_H
 
@@ -17,5 +18,8 @@ struct field plan_field(const struct file *job, size_t at);
 
 /* The same in a description or booking, behind a job that reads well. */
 struct field new_task_field(const struct file *job, const struct file *task, size_t at);
+
+/* The same in a list of times, behind a job and a plan that read well. */
+struct field times_field(const struct file *job, const struct file *plan, size_t at);
 
 #endif

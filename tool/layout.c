@@ -1,5 +1,5 @@
-/* Where each number of a job, a plan or one more task stands, by the version of the
- * job. */
+/* Where each number of a job, a plan, one more task or a list of times stands, by the
+ * version of the job. */
 #include "layout.h"
 
 #include "seqopchi.h"
@@ -194,6 +194,11 @@ struct copy plan_copy(const struct file *job, const struct file *plan,
     c.start = number_at(plan, at + 4);
     c.finish = c.start + job_run_time(job, task, c.node);
     return c;
+}
+
+uint32_t actual_time(const struct file *times, const struct copy *copy)
+{
+    return number_at(times, 8 * (size_t)copy->task + (copy->backup ? 4 : 0));
 }
 
 static int by_value(uint32_t a, uint32_t b)

@@ -1,5 +1,5 @@
-/* Where each number of a job, a plan or one more task stands, by the version of the
- * job. The library has said that the file reads well, or that the part before the
+/* Where each number of a job, a plan, one more task or a list of times stands, by the
+ * version of the job. The library has said that the file reads well, or that the part before the
  * number read is without fault. */
 #ifndef TOOL_LAYOUT_H
 #define TOOL_LAYOUT_H
@@ -73,6 +73,9 @@ bool has_place(const struct file *job, const struct file *task);
 
 struct copy plan_copy(const struct file *job, const struct file *plan,
                       uint32_t task, int backup);
+
+/* How long a copy took, in a list of times. */
+uint32_t actual_time(const struct file *times, const struct copy *copy);
 
 /* All copies of a plan by node, then start, then task, primary before backup.
  * The caller frees them. */

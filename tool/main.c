@@ -8,9 +8,17 @@
 #include <stdio.h>
 #include <string.h>
 
-#define TOOL_VERSION "1.5"
+#define TOOL_VERSION "1.6"
 
-enum { OUTPUT = 1, OUTPUT_DUE = 2, LOSS = 4, JOB = 8, TWO_OUTPUTS = 16 };
+enum {
+    OUTPUT = 1, OUTPUT_DUE = 2, LOSS = 4, JOB = 8, TWO_OUTPUTS = 16, PLAN = 32,
+    TIMES = 64
+};
+
+static const struct { const char *word; int option; } option_words[] = {
+    { "-o", OUTPUT }, { "--lose", LOSS }, { "--job", JOB }, { "--plan", PLAN },
+    { "--times", TIMES }
+};
 
 struct command {
     const char *name;
@@ -27,12 +35,14 @@ static const struct command commands[] = {
     { "judge", run_judge, 2, 2, OUTPUT, "judge JOB PLAN",
       "judge a plan for its job",
       "Prints 'passed' if the plan keeps every rule.\n" },
-    { "replay", run_replay, 2, 2, OUTPUT | LOSS,
-      "replay JOB PLAN [--lose GROUP@TICK]",
+    { "replay", run_replay, 2, 2, OUTPUT | LOSS | TIMES,
+      "replay JOB PLAN [--lose GROUP@TICK] [--times TIMES]",
       "run a plan, with or without a loss",
       "Prints what becomes of each copy, without a loss or with the loss of all\n"
       "nodes of supply group GROUP at tick TICK. Up to job version 3 each node is a\n"
-      "group by itself, and GROUP is its number. The plan need not pass the judge.\n" },
+      "group by itself, and GROUP is its number. With --times each copy takes as long\n"
+      "as the list TIMES says, as text or packed: from 1 tick to its listed run time,\n"
+      "and its start remains the plan's. The plan need not pass the judge.\n" },
     { "list", run_list, 1, 1, OUTPUT, "list JOB",
       "plan a job and print the listing",
       "Prints a line for each task: task, primary node, start, backup node,\n"
@@ -49,24 +59,28 @@ static const struct command commands[] = {
       "node. A link is strong if the result of the sender's backup is there by the\n"
       "primary's start, else weak; a weak link brings the sender's set. The plan need\n"
       "not pass the judge.\n" },
-    { "pack", run_pack, 1, 1, OUTPUT | OUTPUT_DUE | JOB,
-      "pack TEXT -o FILE [--job JOB]",
-      "make a job, plan or task file from text",
+    { "pack", run_pack, 1, 1, OUTPUT | OUTPUT_DUE | JOB | PLAN,
+      "pack TEXT -o FILE [--job JOB [--plan PLAN]]",
+      "make a job, plan, task or times file from text",
       "Writes the file that the text stands for; its first word says whether it\n"
-      "is a job, a plan or a task. A job must read well, and so must a plan if its\n"
-      "job is named by --job. For a task --job is due. The text form is described\n"
-      "in tool/TEXT.md.\n" },
-    { "unpack", run_unpack, 1, 3, OUTPUT, "unpack JOB [PLAN [TASK]] [-o TEXT]",
-      "make text from a job, plan or task file",
+      "is a job, a plan, a task or a list of times. A job must read well, and so must\n"
+      "a plan if its job is named by --job, and a list of times if its job and plan\n"
+      "are named by --job and --plan. For a task --job is due. The text form is\n"
+      "described in tool/TEXT.md.\n" },
+    { "unpack", run_unpack, 1, 3, OUTPUT | TIMES,
+      "unpack JOB [PLAN [TASK | --times TIMES]] [-o TEXT]",
+      "make text from a job, plan, task or times file",
       "Prints the text form of the last file that is given; that of a job in its\n"
-      "own version. With a task the plan must pass the judge.\n" },
-    { "chart", run_chart, 2, 2, OUTPUT | OUTPUT_DUE | LOSS,
-      "chart JOB PLAN [--lose GROUP@TICK] -o FILE.svg",
-      "draw a plan, or its run with a loss",
+      "own version. With a task the plan must pass the judge. A list of times stands\n"
+      "behind --times: no packed file says what it is.\n" },
+    { "chart", run_chart, 2, 2, OUTPUT | OUTPUT_DUE | LOSS | TIMES,
+      "chart JOB PLAN [--lose GROUP@TICK] [--times TIMES] -o FILE.svg",
+      "draw a plan, or its run",
       "Draws a lane for each node with its copies, deadlines and ready times, and a\n"
-      "bracket for the nodes on one supply. With --lose it draws the run: what was\n"
-      "finished, cut and not started. GROUP is a supply group; up to job version 3 it\n"
-      "is the number of a node.\n" },
+      "bracket for the nodes on one supply. With --lose or --times it draws the run:\n"
+      "what was finished, cut and not started. GROUP is a supply group; up to job\n"
+      "version 3 it is the number of a node. TIMES is a list of times, as for replay:\n"
+      "what a copy did not need of its listed run time is drawn open.\n" },
     { "ask", run_ask, 3, 3, OUTPUT, "ask JOB PLAN TASK",
       "ask where one more task would go",
       "Prints the places that the planner would give one more task beside a plan\n"
@@ -96,6 +110,17 @@ static int print(struct buffer *b)
     return status;
 }
 
+/* A usage that is too long for its column has its subject on the next line. */
+static void add_command(struct buffer *b, const struct command *c)
+{
+    enum { COLUMN = 47 };
+
+    buffer_print(b, "  %-*s", COLUMN, c->usage);
+    if (strlen(c->usage) > COLUMN)
+        buffer_print(b, "\n  %*s", COLUMN, "");
+    buffer_print(b, " %s\n", c->subject);
+}
+
 static int general_help(void)
 {
     struct buffer b = { NULL, 0, 0 };
@@ -103,7 +128,7 @@ static int general_help(void)
     buffer_print(&b, "Usage: seqopchi COMMAND FILES..\n"
                      "Rack plans with a standby for every task.\n\n");
     for (int i = 0; i < COMMANDS; i++)
-        buffer_print(&b, "  %-47s %s\n", commands[i].usage, commands[i].subject);
+        add_command(&b, &commands[i]);
     buffer_print(&b, "\n'seqopchi COMMAND --help' tells more of each; "
                      "'seqopchi --version' tells the version\n"
                      "and those of the files that it knows.\n%s", closing);
@@ -154,25 +179,49 @@ static int take_second_output(const struct command *c, struct options *o,
     return 0;
 }
 
+/* Which option of the command a word is, or 0. */
+static int option_of(const struct command *c, const char *word)
+{
+    for (size_t i = 0; i < sizeof option_words / sizeof option_words[0]; i++)
+        if (strcmp(word, option_words[i].word) == 0)
+            return c->takes & option_words[i].option;
+    return 0;
+}
+
+/* Where the file name behind an option goes; null for the loss, which is none. */
+static const char **file_of(struct options *o, int option)
+{
+    switch (option) {
+    case OUTPUT:
+        return &o->output;
+    case JOB:
+        return &o->job;
+    case PLAN:
+        return &o->plan;
+    case TIMES:
+        return &o->times;
+    default:
+        return NULL;
+    }
+}
+
 /* The option at words[0], whose value is words[1]: 0, or 2 after a message. */
 static int take_option(const struct command *c, struct options *o, char **words)
 {
-    bool is_output = strcmp(words[0], "-o") == 0 && c->takes & OUTPUT;
-    bool is_loss = strcmp(words[0], "--lose") == 0 && c->takes & LOSS;
-    bool is_job = strcmp(words[0], "--job") == 0 && c->takes & JOB;
+    int option = option_of(c, words[0]);
+    const char **file = file_of(o, option);
 
-    if (!is_output && !is_loss && !is_job)
+    if (!option)
         return wrong_usage(c, "there is no option", words[0]);
     if (!words[1])
         return wrong_usage(c, "a value is missing behind", words[0]);
-    if ((is_output && o->output) || (is_loss && o->lose) || (is_job && o->job))
+    if (file ? *file != NULL : o->lose)
         return wrong_usage(c, "given twice:", words[0]);
-    if (is_output && c->takes & TWO_OUTPUTS && take_second_output(c, o, words[2]))
+    if (option == OUTPUT && c->takes & TWO_OUTPUTS
+        && take_second_output(c, o, words[2]))
         return 2;
-    if (is_output)
-        o->output = words[1];
-    else if (is_job)
-        o->job = words[1];
+    if (file)
+        *file = words[1];
     else if (!parse_loss(o, words[1]))
         return wrong_usage(c, "expected GROUP@TICK in base ten, found", words[1]);
     return 0;
@@ -188,8 +237,11 @@ static int take_path(const struct command *c, struct options *o, const char *wor
 
 static int dashes(const struct options *o)
 {
-    int count = o->job && is_dash(o->job);
+    const char *const named[] = { o->job, o->plan, o->times };
+    int count = 0;
 
+    for (int i = 0; i < 3; i++)
+        count += named[i] && is_dash(named[i]);
     for (int i = 0; i < o->paths; i++)
         count += is_dash(o->path[i]);
     return count;
@@ -211,6 +263,8 @@ static int check_options(const struct command *c, struct options *o)
         return wrong_usage(c, "a file name is missing", NULL);
     if (!o->output && c->takes & OUTPUT_DUE)
         return wrong_usage(c, "-o FILE is missing", NULL);
+    if (o->times && o->paths != 2)
+        return wrong_usage(c, "--times goes with a job and a plan", NULL);
     if (dashes(o) > 1)
         return wrong_usage(c, "standard input can be only one of the files", NULL);
     if (!o->output)
@@ -220,7 +274,7 @@ static int check_options(const struct command *c, struct options *o)
 
 static int run_command(const struct command *c, char **words)
 {
-    struct options o = { { NULL, NULL, NULL }, 0, NULL, NULL, NULL, false, 0, 0 };
+    struct options o = { .paths = 0 };
     bool options_end = false;
     int status = 0;
 

@@ -4,49 +4,15 @@
 #include "layout.h"
 #include "pack.h"
 
-#include <string.h>
-
-int new_task_read(struct new_task *n, const char *path)
+int new_task_pack(struct source *task, const struct file *job)
 {
-    memset(n, 0, sizeof *n);
-    return file_read(&n->source, path, TEXT_LIMIT + 1);
-}
+    struct text text;
 
-/* No text holds a zero byte. Each packed form that reads well does, since its numbers
- * stay below 2 to the 24th. */
-static bool is_packed(const struct file *f)
-{
-    return f->length > 0 && memchr(f->data, 0, f->length);
-}
-
-static void take_first_word(struct text *t)
-{
-    if (next_line(t))
-        take_word(t, "task");
-    else
-        text_fault(t, "expected 'task', but the text ends");
-}
-
-int new_task_pack(struct new_task *n, const struct file *job)
-{
-    struct text text = text_of(&n->source);
-
-    if (is_packed(&n->source)) {
-        n->file = n->source;
+    if (!task->is_text)
         return 0;
-    }
-    if (check_text_length(&n->source))
-        return 2;
-    take_first_word(&text);
-    pack_new_task(&text, &n->packed, job);
-    n->file = section_file(&n->packed, n->source.name);
-    return text.wrong ? 2 : 0;
-}
-
-void new_task_free(struct new_task *n)
-{
-    section_free(&n->packed);
-    file_free(&n->source);
+    text = source_text(task, "task");
+    pack_new_task(&text, &task->packed, job);
+    return source_packed(task, &text);
 }
 
 /* link from TASK delay TICKS */

@@ -1,10 +1,11 @@
-/* pack: a job, a plan or one more task from its text form (TEXT.md). */
+/* pack: a job, a plan, one more task or a list of times from its text form (TEXT.md). */
 #include "pack.h"
 
 #include "commands.h"
 #include "layout.h"
 #include "new_task.h"
 #include "refusal.h"
+#include "times.h"
 
 #include <stdio.h>
 
@@ -13,8 +14,8 @@ struct job_text {
     struct section nodes, tasks, links;
 };
 
-/* What is packed, and the job beside it where one is named. */
-enum kind { JOB_TEXT, PLAN_TEXT, TASK_TEXT };
+/* What is packed, and the job, or job and plan, beside it where they are named. */
+enum kind { JOB_TEXT, PLAN_TEXT, TASK_TEXT, TIMES_TEXT };
 
 struct packing {
     enum kind kind;
@@ -163,30 +164,42 @@ static void pack_plan(struct text *t, struct section *file)
 static enum kind take_kind(struct text *t)
 {
     if (!next_line(t))
-        text_fault(t, "expected 'job', 'plan' or 'task', but the text ends");
+        text_fault(t, "expected 'job', 'plan', 'task' or 'times', but the text ends");
     else if (took_word(t, "job"))
         return JOB_TEXT;
     else if (took_word(t, "plan"))
         return PLAN_TEXT;
+    else if (took_word(t, "times"))
+        return TIMES_TEXT;
     else if (!took_word(t, "task"))
-        text_fault(t, "expected 'job', 'plan' or 'task' as the first word");
+        text_fault(t, "expected 'job', 'plan', 'task' or 'times' as the first word");
     return TASK_TEXT;
+}
+
+/* Which files go with a text. */
+static int check_beside(enum kind kind, const struct options *o, const char *name)
+{
+    if (kind != TIMES_TEXT && o->plan)
+        return failed("'%s' has no times: --plan goes with a list of them", name);
+    if (kind == JOB_TEXT && o->job)
+        return failed("'%s' is a job: --job goes with a plan, a task or times", name);
+    if (kind == TASK_TEXT && !o->job)
+        return failed("'%s' describes a task: --job JOB is missing", name);
+    if (kind == TIMES_TEXT && !o->job != !o->plan)
+        return failed("'%s' lists times: --job JOB and --plan PLAN go together", name);
+    return 0;
 }
 
 /* A task is taken apart by the version and the nodes of its job. */
 static int read_beside(struct packing *p, const struct options *o, const char *name)
 {
-    struct options one = { { o->job, NULL, NULL }, 1, "-", NULL, NULL, false, 0, 0 };
+    struct options beside = { .path = { o->job, o->plan }, .paths = o->plan ? 2 : 1 };
     uint64_t result;
-    int status;
+    int status = check_beside(p->kind, o, name);
 
-    if (p->kind == JOB_TEXT && o->job)
-        return failed("'%s' is a job: --job goes with a plan or a task", name);
-    if (p->kind == TASK_TEXT && !o->job)
-        return failed("'%s' describes a task: --job JOB is missing", name);
-    if (!o->job)
-        return 0;
-    status = read_input(&p->beside, &one);
+    if (status || !o->job)
+        return status;
+    status = read_input(&p->beside, &beside);
     if (status)
         return status;
     p->named = true;
@@ -201,6 +214,10 @@ static void pack_text(struct text *t, struct packing *p)
 
     if (p->kind == TASK_TEXT) {
         pack_new_task(t, &p->file, &p->beside.job);
+        return;
+    }
+    if (p->kind == TIMES_TEXT) {
+        pack_times(t, &p->file);
         return;
     }
     version = take_number(t, "the version");
@@ -227,11 +244,11 @@ static int ask_packed_task(const struct file *job, const struct file *packed)
     return result ? refused_task(result, job, &plan, packed) : 0;
 }
 
-/* The refusal of what was packed, or 0. A plan without its job is not asked about:
- * the judge will be. */
+/* The refusal of what was packed, or 0. A plan without its job is not asked about: the
+ * judge will be; nor is a list of times without its plan: replay will be. */
 static int ask_packed(const struct packing *p, const struct file *packed)
 {
-    const struct file *job = &p->beside.job;
+    const struct file *job = &p->beside.job, *plan = &p->beside.plan;
     uint64_t result;
 
     if (p->kind == JOB_TEXT) {
@@ -240,6 +257,10 @@ static int ask_packed(const struct packing *p, const struct file *packed)
     }
     if (p->kind == TASK_TEXT)
         return ask_packed_task(job, packed);
+    if (p->kind == TIMES_TEXT) {
+        result = p->named ? ask_times(job, plan, packed) : 0;
+        return result ? refused_times(result, job, plan, packed) : 0;
+    }
     result = p->named ? ask_files(job, packed) : 0;
     return result ? refused(result, job, packed) : 0;
 }

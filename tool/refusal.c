@@ -7,23 +7,36 @@
 
 #include <stdio.h>
 
-/* With a buffer of no bytes the planner stops behind the reading, with 17. */
-uint64_t ask_job(const struct file *job)
+/* With a buffer of no bytes planner and replay stop behind the reading, with 17. */
+static uint64_t but_for_room(uint64_t result)
 {
-    uint8_t none = 0;
-    uint64_t result = seqopchi_plan(job->data, job->length, &none, 0);
-
     return seqopchi_number(result) == SEQOPCHI_REFUSED_SHORT_BUFFER ? 0 : result;
 }
 
-/* The same by replay, which reads both files and never judges the plan. */
+uint64_t ask_job(const struct file *job)
+{
+    uint8_t none = 0;
+
+    return but_for_room(seqopchi_plan(job->data, job->length, &none, 0));
+}
+
+/* By replay, which reads both files and never judges the plan. */
 uint64_t ask_files(const struct file *job, const struct file *plan)
 {
     uint8_t none = 0;
-    uint64_t result = seqopchi_replay(job->data, job->length,
-                                      plan->data, plan->length, &none, 0);
 
-    return seqopchi_number(result) == SEQOPCHI_REFUSED_SHORT_BUFFER ? 0 : result;
+    return but_for_room(seqopchi_replay(job->data, job->length,
+                                        plan->data, plan->length, &none, 0));
+}
+
+uint64_t ask_times(const struct file *job, const struct file *plan,
+                   const struct file *times)
+{
+    uint8_t none = 0;
+
+    return but_for_room(seqopchi_replay_times(job->data, job->length,
+                                              plan->data, plan->length,
+                                              times->data, times->length, &none, 0));
 }
 
 /* Behind the reading come other refusals: full, no place, stale, short buffer. */
@@ -94,9 +107,9 @@ static void add_new_link_order(struct buffer *b, const struct file *job,
                  (unsigned)number_at(task, at), (unsigned)number_at(task, at - 8));
 }
 
-/* What a call was given; plan and task are null where there is none. */
+/* What a call was given; plan, task and times are null where there is none. */
 struct given {
-    const struct file *job, *plan, *task;
+    const struct file *job, *plan, *task, *times;
 };
 
 /* Whether a booking was given to ask, for which its place is a tail. */
@@ -105,22 +118,44 @@ static bool is_place(const struct given *g, const struct file *f, uint32_t at)
     return f == g->task && at == description_end(g->job, f) && f->length == at + 16;
 }
 
+/* Of the texts only a list of times can have a line too many, or one too few. */
 static void add_tail(struct buffer *b, const struct given *g, const struct file *f,
                      uint32_t at)
 {
-    if (!is_place(g, f, at)) {
+    uint32_t tasks = job_tasks(g->job);
+    char what[32];
+
+    if (is_place(g, f, at)) {
+        add_place(b, f, at, "the place");
+        buffer_print(b, ", is for commit; ask takes a description without one");
+    } else if (f->lines) {
+        snprintf(what, sizeof what, "task %u", (unsigned)tasks);
+        add_place(b, f, at, what);
+        buffer_print(b, ", is none of the job, whose last task is %u",
+                     (unsigned)tasks - 1);
+    } else {
         buffer_print(b, "byte %u of '%s' follows the last section, where the file "
                      "must end", (unsigned)at, f->name);
-        return;
     }
-    add_place(b, f, at, "the place");
-    buffer_print(b, ", is for commit; ask takes a description without one");
+}
+
+static void add_short(struct buffer *b, const struct file *f, uint32_t at,
+                      const char *what)
+{
+    if (f->lines)
+        buffer_print(b, "'%s' ends before %s (byte %u when packed)", f->name, what,
+                     (unsigned)at);
+    else
+        buffer_print(b, "'%s' has fewer than 4 bytes left at byte %u, for %s",
+                     f->name, (unsigned)at, what);
 }
 
 static struct field field_at(const struct given *g, const struct file *f, uint32_t at)
 {
     if (f == g->task)
         return new_task_field(g->job, f, at);
+    if (f == g->times)
+        return times_field(g->job, g->plan, at);
     return f == g->job ? job_field(f, at) : plan_field(g->job, at);
 }
 
@@ -131,8 +166,7 @@ static void add_value(struct buffer *b, unsigned number, const struct given *g,
     struct field field = field_at(g, f, at);
 
     if (number == SEQOPCHI_REFUSED_SHORT) {
-        buffer_print(b, "'%s' has fewer than 4 bytes left at byte %u, for %s",
-                     f->name, (unsigned)at, field.name);
+        add_short(b, f, at, field.name);
         return;
     }
     add_place(b, f, at, field.name);
@@ -141,14 +175,18 @@ static void add_value(struct buffer *b, unsigned number, const struct given *g,
         buffer_print(b, ", a node that cannot run the task (run time 0)");
     else
         add_limits(b, &field);
+    if (f == g->times)
+        buffer_print(b, ", its listed run time");
 }
 
-/* The library reads job, plan and task in turn. */
+/* The library reads job, plan, and task or times in turn. */
 static const struct file *faulty(const struct given *g)
 {
+    const struct file *third = g->task ? g->task : g->times;
+
     if (!g->plan || ask_job(g->job))
         return g->job;
-    return !g->task || ask_files(g->job, g->plan) ? g->plan : g->task;
+    return !third || ask_files(g->job, g->plan) ? g->plan : third;
 }
 
 /* 1 to 7: the first place is a byte offset in the file at fault. */
@@ -281,7 +319,7 @@ static void add_refusal(struct buffer *b, uint64_t result, const struct given *g
 
 void verdict_text(struct buffer *b, const struct file *job, const struct file *plan)
 {
-    struct given given = { job, plan, NULL };
+    struct given given = { job, plan, NULL, NULL };
     uint64_t result = seqopchi_judge(job->data, job->length, plan->data, plan->length);
 
     if (result)
@@ -290,16 +328,30 @@ void verdict_text(struct buffer *b, const struct file *job, const struct file *p
         buffer_print(b, "passed");
 }
 
-int refused_task(uint64_t result, const struct file *job, const struct file *plan,
-                 const struct file *task)
+static int tell_refusal(uint64_t result, const struct given *g)
 {
-    struct given given = { job, plan, task };
     struct buffer text = { NULL, 0, 0 };
 
-    add_refusal(&text, result, &given);
+    add_refusal(&text, result, g);
     failed("%.*s", (int)text.length, text.data);
     buffer_free(&text);
     return 1;
+}
+
+int refused_task(uint64_t result, const struct file *job, const struct file *plan,
+                 const struct file *task)
+{
+    struct given given = { job, plan, task, NULL };
+
+    return tell_refusal(result, &given);
+}
+
+int refused_times(uint64_t result, const struct file *job, const struct file *plan,
+                  const struct file *times)
+{
+    struct given given = { job, plan, NULL, times };
+
+    return tell_refusal(result, &given);
 }
 
 int refused(uint64_t result, const struct file *job, const struct file *plan)

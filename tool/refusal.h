@@ -13,6 +13,10 @@ uint64_t ask_files(const struct file *job, const struct file *plan);
 uint64_t ask_new_task(const struct file *job, const struct file *plan,
                       const struct file *task);
 
+/* Whether job, plan and a list of times do. */
+uint64_t ask_times(const struct file *job, const struct file *plan,
+                   const struct file *times);
+
 /* The judge's answer to a plan, "passed" or "refused 4 (value): byte 12 of ..", without
  * a line end. */
 void verdict_text(struct buffer *b, const struct file *job, const struct file *plan);
@@ -24,5 +28,9 @@ int refused(uint64_t result, const struct file *job, const struct file *plan);
 /* The same where one more task was given too. */
 int refused_task(uint64_t result, const struct file *job, const struct file *plan,
                  const struct file *task);
+
+/* The same where a list of times was given too, or null. */
+int refused_times(uint64_t result, const struct file *job, const struct file *plan,
+                  const struct file *times);
 
 #endif

@@ -1,5 +1,5 @@
-/* unpack: the text form of a job, of a plan behind its job, or of one more task behind
- * both (TEXT.md). */
+/* unpack: the text form of a job, of a plan behind its job, or of one more task or a
+ * list of times behind both (TEXT.md). */
 #include "commands.h"
 
 #include "layout.h"
@@ -94,6 +94,38 @@ static void add_new_task_text(struct buffer *b, const struct file *job,
     add_copies(b, task, description_end(job, task));
 }
 
+static void add_times_text(struct buffer *b, const struct file *job,
+                           const struct file *times)
+{
+    uint32_t tasks = job_tasks(job);
+
+    buffer_print(b, "times\n");
+    for (uint32_t task = 0; task < tasks; task++)
+        buffer_print(b, "task %u primary %u backup %u\n", (unsigned)task,
+                     (unsigned)number_at(times, 8 * (size_t)task),
+                     (unsigned)number_at(times, 8 * (size_t)task + 4));
+}
+
+static int unpack_times(const struct options *o)
+{
+    struct input in;
+    struct buffer text = { NULL, 0, 0 };
+    int status = read_input(&in, o);
+    uint64_t result;
+
+    if (status)
+        return status;
+    result = ask_times(&in.job, &in.plan, &in.times.file);
+    if (result) {
+        status = refused_times(result, &in.job, &in.plan, &in.times.file);
+    } else {
+        add_times_text(&text, &in.job, &in.times.file);
+        status = finish_output(o, &text);
+    }
+    free_input(&in);
+    return status;
+}
+
 static int unpack_new_task(const struct options *o)
 {
     struct request r;
@@ -122,6 +154,8 @@ int run_unpack(const struct options *o)
 
     if (o->paths > 2)
         return unpack_new_task(o);
+    if (o->times)
+        return unpack_times(o);
     status = read_readable(&in, o);
     if (status)
         return status;

@@ -169,10 +169,15 @@ static uint64_t read_job(struct file file, struct job *job)
     return refused;
 }
 
+static void set_ticks(const struct job *job, uint32_t ticks, struct copy *copy)
+{
+    copy->finish = copy->start + ticks;
+    copy->sent = copy->finish + job->send[copy->node];
+}
+
 static void set_finish(const struct job *job, uint32_t task, struct copy *copy)
 {
-    copy->finish = copy->start + job->run[task][copy->node];
-    copy->sent = copy->finish + job->send[copy->node];
+    set_ticks(job, job->run[task][copy->node], copy);
 }
 
 static inline uint64_t read_copy(struct file *file, const struct job *job, uint32_t task,
@@ -200,6 +205,31 @@ static uint64_t read_plan(struct file file, const struct job *job, struct layout
         refused = read_copy(&file, job, task, &plan->primary[task]);
         if (!refused)
             refused = read_copy(&file, job, task, &plan->backup[task]);
+    }
+    if (!refused)
+        refused = read_end(&file);
+    return refused;
+}
+
+/* From 1 to the listed run time on the copy's node. */
+static inline uint64_t read_ticks(struct file *file, const struct job *job, uint32_t task,
+                                  struct copy *copy)
+{
+    uint32_t ticks;
+    uint64_t refused = read_within(file, 1, job->run[task][copy->node], VALUE, &ticks);
+    if (!refused)
+        set_ticks(job, ticks, copy);
+    return refused;
+}
+
+/* A list of actual times (request (viii)). From then on the copies finish as it says. */
+static uint64_t read_times(struct file file, const struct job *job, struct layout *plan)
+{
+    uint64_t refused = 0;
+    for (uint32_t task = 0; !refused && task < job->tasks; task++) {
+        refused = read_ticks(&file, job, task, &plan->primary[task]);
+        if (!refused)
+            refused = read_ticks(&file, job, task, &plan->backup[task]);
     }
     if (!refused)
         refused = read_end(&file);
@@ -455,9 +485,9 @@ static uint32_t lost_nodes(const struct job *job, const struct loss *loss)
     return lost;
 }
 
-/* Job and plan, then 18, then 17. */
+/* Job and plan, then 18, then the list if there is one, then 17. */
 static uint64_t start_run(struct file job_file, struct file plan_file, struct loss loss,
-                          size_t out_length, struct run *run)
+                          const struct file *times, size_t out_length, struct run *run)
 {
     uint64_t refused = read_job(job_file, &run->job);
     if (!refused)
@@ -468,9 +498,21 @@ static uint64_t start_run(struct file job_file, struct file plan_file, struct lo
     run->moment = loss.moment;
     if (loss.happens && !run->lost)
         return refuse(NO_SUCH_NODE, loss.group, 0);
+    if (times)
+        refused = read_times(*times, &run->job, &run->plan);
+    if (refused)
+        return refused;
     if (out_length < 12 * (size_t)run->job.tasks)
         return refuse(SHORT_BUFFER, 12 * run->job.tasks, 0);
     return 0;
+}
+
+/* Rule B in a run: with a list too, it goes by the time that is listed for the primary. */
+static int called_after_detection(const struct run *run, uint32_t task)
+{
+    struct copy listed = run->plan.primary[task];
+    set_finish(&run->job, task, &listed);
+    return after_detection(&run->job, &listed, &run->plan.backup[task]);
 }
 
 /* What becomes of a copy whose inputs are there. */
@@ -620,6 +662,7 @@ static uint64_t fault_sets(struct file job_file, struct file plan_file, uint8_t 
    function of its own. */
 #define EXPORT(side)                                                                              \
     EXPORT_JUDGE_AND_REPLAY(side)                                                                 \
+    EXPORT_REPLAY_TIMES(side)                                                                     \
     EXPORT_ASK_AND_COMMIT(side)                                                                   \
     EXPORT_FAULT_SETS(side)
 
@@ -633,16 +676,37 @@ static uint64_t fault_sets(struct file job_file, struct file plan_file, uint8_t 
                            size_t plan_length, uint8_t *out, size_t out_length)                   \
     {                                                                                             \
         struct loss none = { 0, 0, 0 };                                                           \
-        return replay(open_bytes(job, job_length), open_bytes(plan, plan_length), none, out,      \
-                      out_length);                                                                \
+        return replay(open_bytes(job, job_length), open_bytes(plan, plan_length), none, NULL,     \
+                      out, out_length);                                                           \
     }                                                                                             \
     uint64_t side##_replay_loss(const uint8_t *job, size_t job_length, const uint8_t *plan,       \
                                 size_t plan_length, uint32_t group, uint32_t moment,              \
                                 uint8_t *out, size_t out_length)                                  \
     {                                                                                             \
         struct loss loss = { 1, group, moment };                                                  \
-        return replay(open_bytes(job, job_length), open_bytes(plan, plan_length), loss, out,      \
-                      out_length);                                                                \
+        return replay(open_bytes(job, job_length), open_bytes(plan, plan_length), loss, NULL,     \
+                      out, out_length);                                                           \
+    }
+
+#define EXPORT_REPLAY_TIMES(side)                                                                 \
+    uint64_t side##_replay_times(const uint8_t *job, size_t job_length, const uint8_t *plan,      \
+                                 size_t plan_length, const uint8_t *times, size_t times_length,   \
+                                 uint8_t *out, size_t out_length)                                 \
+    {                                                                                             \
+        struct loss none = { 0, 0, 0 };                                                           \
+        struct file list = open_bytes(times, times_length);                                       \
+        return replay(open_bytes(job, job_length), open_bytes(plan, plan_length), none, &list,    \
+                      out, out_length);                                                           \
+    }                                                                                             \
+    uint64_t side##_replay_times_loss(const uint8_t *job, size_t job_length, const uint8_t *plan, \
+                                      size_t plan_length, uint32_t group, uint32_t moment,        \
+                                      const uint8_t *times, size_t times_length, uint8_t *out,    \
+                                      size_t out_length)                                          \
+    {                                                                                             \
+        struct loss loss = { 1, group, moment };                                                  \
+        struct file list = open_bytes(times, times_length);                                       \
+        return replay(open_bytes(job, job_length), open_bytes(plan, plan_length), loss, &list,    \
+                      out, out_length);                                                           \
     }
 
 #define EXPORT_ASK_AND_COMMIT(side)                                                               \

@@ -8,11 +8,13 @@ use crate::planner;
 use crate::refusal::{code_of, Refusal, NO_SUCH_NODE, SHORT_BUFFER};
 use crate::replay::{self, Loss};
 use crate::rules;
+use crate::times::{listed_times, read_times};
 
 /// What ask writes: primary node, primary start, backup node, backup start.
 pub type Places = [u32; 4];
 
 type Replay = fn(&[u8], &[u8], Option<Loss>, &mut [u8]) -> u64;
+type ReplayTimes = fn(&[u8], &[u8], Option<Loss>, &[u8], &mut [u8]) -> u64;
 type Ask = fn(&[u8], &[u8], &[u8], &mut Places) -> u64;
 type Commit = fn(&[u8], &[u8], &[u8], &mut [u8], &mut [u8]) -> u64;
 
@@ -23,6 +25,8 @@ pub struct Console {
     pub judge: fn(&[u8], &[u8]) -> u64,
     pub plan: fn(&[u8], &mut [u8]) -> u64,
     pub replay: Replay,
+    /// With the list of actual times behind the loss.
+    pub replay_times: ReplayTimes,
     /// Job, plan and description.
     pub ask: Ask,
     /// Job, plan and booking; the longer job and the longer plan.
@@ -33,7 +37,7 @@ pub struct Console {
 
 /// The implementation of this package.
 pub const SECOND: Console =
-    Console { name: "second", judge, plan, replay, ask, commit, fault_sets };
+    Console { name: "second", judge, plan, replay, replay_times, ask, commit, fault_sets };
 
 pub fn plan_bytes(tasks: usize) -> usize {
     8 + 16 * tasks
@@ -71,18 +75,31 @@ fn try_plan(job: &[u8], out: &mut [u8]) -> Result<(), Refusal> {
 }
 
 fn replay(job: &[u8], plan: &[u8], loss: Option<Loss>, out: &mut [u8]) -> u64 {
-    code_of(try_replay(job, plan, loss, out))
+    code_of(try_replay(job, plan, loss, None, out))
 }
 
-fn try_replay(job: &[u8], plan: &[u8], loss: Option<Loss>, out: &mut [u8]) -> Result<(), Refusal> {
+fn replay_times(job: &[u8], plan: &[u8], loss: Option<Loss>, times: &[u8], out: &mut [u8]) -> u64 {
+    code_of(try_replay(job, plan, loss, Some(times), out))
+}
+
+/// Without a list every copy takes the time that is listed for it.
+fn try_replay(
+    job: &[u8],
+    plan: &[u8],
+    loss: Option<Loss>,
+    times: Option<&[u8]>,
+    out: &mut [u8],
+) -> Result<(), Refusal> {
     let job = read_job(job)?;
     let plan = read_plan(&job, plan)?;
     let lost = loss.map(|loss| u64::from(loss.group));
     if let Some(group) = lost.filter(|group| !job.groups().contains(group)) {
         return Err(Refusal::at(NO_SUCH_NODE, group));
     }
+    let listed = || Ok(listed_times(&job, &plan));
+    let times = times.map_or_else(listed, |list| read_times(&job, &plan, list))?;
     room_for(replay_bytes(job.tasks.len()), out)?;
-    let outcomes = replay::replay(&job, &plan, loss);
+    let outcomes = replay::replay_times(&job, &plan, loss, &times);
     let numbers =
         outcomes.iter().flat_map(|o| [o.primary as u32, o.backup as u32, o.finish as u32]);
     put(&numbers.flat_map(u32::to_le_bytes).collect::<Vec<u8>>(), out);

@@ -6,8 +6,8 @@ use crate::replay::Loss;
 /// The C functions of one prefix as a console. A slice crosses as a pointer and its length.
 macro_rules! c_console {
     (
-        $module:ident, $judge:ident, $plan:ident, $replay:ident, $replay_loss:ident, $ask:ident,
-        $commit:ident, $fault_sets:ident
+        $module:ident, $judge:ident, $plan:ident, $replay:ident, $replay_loss:ident,
+        $replay_times:ident, $replay_times_loss:ident, $ask:ident, $commit:ident, $fault_sets:ident
     ) => {
         mod $module {
             use super::{Console, Loss, Places};
@@ -30,6 +30,28 @@ macro_rules! c_console {
                     plan_len: usize,
                     group: u32,
                     moment: u32,
+                    out: *mut u8,
+                    out_len: usize,
+                ) -> u64;
+                fn $replay_times(
+                    job: *const u8,
+                    job_len: usize,
+                    plan: *const u8,
+                    plan_len: usize,
+                    times: *const u8,
+                    times_len: usize,
+                    out: *mut u8,
+                    out_len: usize,
+                ) -> u64;
+                fn $replay_times_loss(
+                    job: *const u8,
+                    job_len: usize,
+                    plan: *const u8,
+                    plan_len: usize,
+                    group: u32,
+                    moment: u32,
+                    times: *const u8,
+                    times_len: usize,
                     out: *mut u8,
                     out_len: usize,
                 ) -> u64;
@@ -64,8 +86,16 @@ macro_rules! c_console {
                 ) -> u64;
             }
 
-            pub const CONSOLE: Console =
-                Console { name: stringify!($module), judge, plan, replay, ask, commit, fault_sets };
+            pub const CONSOLE: Console = Console {
+                name: stringify!($module),
+                judge,
+                plan,
+                replay,
+                replay_times,
+                ask,
+                commit,
+                fault_sets,
+            };
 
             // Each slice is live and borrowed for the whole call, and the C side keeps none.
 
@@ -85,6 +115,30 @@ macro_rules! c_console {
                     None => unsafe { $replay(job, job_len, plan, plan_len, out, out_len) },
                     Some(Loss { group, moment }) => unsafe {
                         $replay_loss(job, job_len, plan, plan_len, group, moment, out, out_len)
+                    },
+                }
+            }
+
+            fn replay_times(
+                job: &[u8],
+                plan: &[u8],
+                loss: Option<Loss>,
+                times: &[u8],
+                out: &mut [u8],
+            ) -> u64 {
+                let (job, job_len) = (job.as_ptr(), job.len());
+                let (plan, plan_len) = (plan.as_ptr(), plan.len());
+                let (times, times_len) = (times.as_ptr(), times.len());
+                let (out, out_len) = (out.as_mut_ptr(), out.len());
+                match loss {
+                    None => unsafe {
+                        $replay_times(job, job_len, plan, plan_len, times, times_len, out, out_len)
+                    },
+                    Some(Loss { group, moment }) => unsafe {
+                        $replay_times_loss(
+                            job, job_len, plan, plan_len, group, moment, times, times_len, out,
+                            out_len,
+                        )
                     },
                 }
             }
@@ -134,6 +188,8 @@ c_console!(
     seqopchi_plan,
     seqopchi_replay,
     seqopchi_replay_loss,
+    seqopchi_replay_times,
+    seqopchi_replay_times_loss,
     seqopchi_ask,
     seqopchi_commit,
     seqopchi_fault_sets
@@ -144,6 +200,8 @@ c_console!(
     plain_plan,
     plain_replay,
     plain_replay_loss,
+    plain_replay_times,
+    plain_replay_times_loss,
     plain_ask,
     plain_commit,
     plain_fault_sets
@@ -154,6 +212,8 @@ c_console!(
     tuned_plan,
     tuned_replay,
     tuned_replay_loss,
+    tuned_replay_times,
+    tuned_replay_times_loss,
     tuned_ask,
     tuned_commit,
     tuned_fault_sets

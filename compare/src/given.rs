@@ -29,6 +29,16 @@ impl Given {
         Call { function: Function::Replay(loss), job: &self.bytes, plan, room }
     }
 
+    pub fn replay_times<'a>(
+        &'a self,
+        plan: &'a [u8],
+        loss: Option<Loss>,
+        times: &'a [u8],
+        room: usize,
+    ) -> Call<'a> {
+        Call { function: Function::ReplayTimes(loss, times), job: &self.bytes, plan, room }
+    }
+
     pub fn fault_sets<'a>(&'a self, plan: &'a [u8], room: usize) -> Call<'a> {
         Call { function: Function::FaultSets, job: &self.bytes, plan, room }
     }

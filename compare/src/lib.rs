@@ -1,4 +1,4 @@
-//! A second implementation of document 01 and of requests (i) to (vii) of document 02, and
+//! A second implementation of document 01 and of requests (i) to (viii) of document 02, and
 //! what compares the proved library with it.
 
 pub mod asked_samples;
@@ -12,6 +12,7 @@ pub mod damage;
 pub mod descriptions;
 pub mod drawers;
 pub mod earlier;
+pub mod early_ends;
 pub mod entries;
 pub mod fault_sets;
 pub mod faulty;
@@ -45,4 +46,8 @@ pub mod sized;
 pub mod stack;
 pub mod survival;
 pub mod tally;
+pub mod time_lists;
+pub mod timed;
+pub mod timed_samples;
+pub mod times;
 pub mod trial;

@@ -1,5 +1,6 @@
 //! Losses of a group, tried on a plan.
 
+use crate::console::Console;
 use crate::drawers::count_losses;
 use crate::earlier::without_send_times;
 use crate::files::{Job, Plan};
@@ -44,7 +45,7 @@ pub fn try_losses(
     Ok(())
 }
 
-fn lost((group, moment): (u64, u64)) -> Loss {
+pub fn lost((group, moment): (u64, u64)) -> Loss {
     Loss { group: group as u32, moment: moment as u32 }
 }
 
@@ -66,29 +67,49 @@ pub fn try_survival(
     plan: &[u8],
     survival: &Survival,
 ) -> Result<(), Mismatch> {
-    let mut rows = vec![0; given.replay_room()];
-    let mut run = |loss: Option<Loss>| {
-        trial.tally.survived += 1;
-        let code = (trial.console.replay)(&given.bytes, plan, loss, &mut rows);
-        let refused = (code != 0).then(|| "refused the replay of a passed plan".to_string());
-        let fault = refused.or_else(|| survival.fault(loss, &rows));
-        let call = given.replay(plan, loss, rows.len());
-        fault.map_or(Ok(()), |text| Err(Mismatch::new(&call, text)))
-    };
-    run(None)?;
+    let every_tick = at_every_tick(given, survival);
+    trial.tally.every_tick += u64::from(every_tick.is_some());
+    let losses = every_tick.unwrap_or_else(|| {
+        let (groups, end) = (given.groups(), survival.end() + 1);
+        let more = (0..200).map(|_| lost((random.pick(&groups), random.between(0, end))));
+        survival.moments().map(lost).chain(more).collect()
+    });
+    trial.tally.survived += 1 + losses.len() as u64;
+    outlive(trial, given, plan, None, survival, &losses)
+}
+
+/// Every group lost at every tick up to one after the end; none if that is too much.
+pub fn at_every_tick(given: &Given, survival: &Survival) -> Option<Vec<Loss>> {
     let (groups, end) = (given.groups(), survival.end() + 1);
-    if groups.len() as u64 * (end + 1) <= MOST_RUNS {
-        for group in groups {
-            (0..=end).try_for_each(|moment| run(Some(lost((group, moment)))))?;
+    let few = groups.len() as u64 * (end + 1) <= MOST_RUNS;
+    let moments = |group: u64| (0..=end).map(move |moment| lost((group, moment)));
+    few.then(|| groups.into_iter().flat_map(moments).collect())
+}
+
+/// Demand 3 with no loss and with each of the losses, with a list of actual times or as listed.
+pub fn outlive(
+    trial: &Trial,
+    given: &Given,
+    plan: &[u8],
+    times: Option<&[u8]>,
+    survival: &Survival,
+    losses: &[Loss],
+) -> Result<(), Mismatch> {
+    let Console { replay, replay_times, .. } = trial.console;
+    let mut rows = vec![0; given.replay_room()];
+    for loss in [None].into_iter().chain(losses.iter().copied().map(Some)) {
+        let code = match times {
+            None => replay(&given.bytes, plan, loss, &mut rows),
+            Some(times) => replay_times(&given.bytes, plan, loss, times, &mut rows),
+        };
+        let refused = (code != 0).then(|| "refused the replay of a passed plan".to_string());
+        if let Some(text) = refused.or_else(|| survival.fault(loss, &rows)) {
+            let call = match times {
+                None => given.replay(plan, loss, rows.len()),
+                Some(times) => given.replay_times(plan, loss, times, rows.len()),
+            };
+            return Err(Mismatch::new(&call, text));
         }
-        trial.tally.every_tick += 1;
-        return Ok(());
-    }
-    for moment in survival.moments() {
-        run(Some(lost(moment)))?;
-    }
-    for _ in 0..200 {
-        run(Some(lost((random.pick(&groups), random.between(0, end)))))?;
     }
     Ok(())
 }

@@ -9,7 +9,9 @@ use crate::drawers::sends_in_drawer;
 use crate::earlier::{
     hasty_plan, keeps_rule_e_of_01, without_drawers, without_ready_times, without_send_times,
 };
-use crate::files::{read_job, read_plan, write_plan, Job, Plan, MAX_GROUP, NEWEST, TASKS};
+use crate::files::{
+    bytes_of, read_job, read_plan, write_plan, Job, Plan, MAX_GROUP, NEWEST, TASKS,
+};
 use crate::forgetful::forgetful_plan;
 use crate::free_places;
 use crate::given::{some_room, Given};
@@ -23,6 +25,7 @@ use crate::rules::{judge, layout, longest_weak_path, sharing_backups};
 use crate::set_calls::{try_judge, try_rooms};
 use crate::survival::Survival;
 use crate::tally::Tally;
+use crate::timed::Timed;
 use crate::trial::{Call, Function, Mismatch, Trial};
 
 pub fn round(trial: &mut Trial, random: &mut Random) -> Result<(), Mismatch> {
@@ -198,6 +201,8 @@ pub fn try_plan(
         let passed = earlier.is_some_and(|job| judge(&job, &plan).is_ok());
         trial.tally.refused_by_send += u64::from(passed);
     }
+    let timed = Timed { given, plan: &plan, bytes, passed: code == 0 };
+    timed.try_lists(trial, &mut random.aside())?;
     Ok(code)
 }
 
@@ -258,7 +263,7 @@ const FAR_GROUPS: [u32; 13] =
     [16, 17, 31, 32, 64, 255, 256, 65_535, 65_536, 1 << 24, 1 << 31, u32::MAX - 1, u32::MAX];
 
 /// A group without a node: as often as not, if there is any, one that could have one.
-fn missing_group(random: &mut Random, job: &Job) -> u32 {
+pub fn missing_group(random: &mut Random, job: &Job) -> u32 {
     let groups = job.groups();
     let (far, any) = (random.pick(&FAR_GROUPS), random.draw() as u32);
     let beyond = random.pick(&[far, far, u32::MAX, any.max(MAX_GROUP as u32 + 1)]);
@@ -312,7 +317,8 @@ fn try_every_length(trial: &mut Trial, given: &Given, plan: &[u8]) -> Result<(),
     Ok(())
 }
 
-/// The functions of a round on any two files.
+/// The functions of a round on any two files. The list of actual times is good for any plan of
+/// that length that reads well.
 fn try_files(
     trial: &mut Trial,
     random: &mut Random,
@@ -323,9 +329,11 @@ fn try_files(
     let group = random.pick(&[0, 1, 2, 15, 16, u32::MAX]);
     let loss = Some(Loss { group, moment: random.between(0, 30) as u32 });
     let (whole, lossy) = (Function::Replay(None), Function::Replay(loss));
+    let times = bytes_of(&vec![1; 2 * (plan.len().saturating_sub(8) / 16)]);
+    let timed = [Function::ReplayTimes(None, &times), Function::ReplayTimes(loss, &times)];
     let functions = [Function::Judge, Function::Plan, whole, lossy, Function::FaultSets];
     let later = job.first_chunk().is_some_and(|&v| u64::from(u32::from_le_bytes(v)) > NEWEST);
-    for function in functions {
+    for function in functions.into_iter().chain(timed) {
         let code = trial.compare(&Call { function, job, plan, room })?;
         let refused = code == Refusal::at(VERSION, 0).code();
         trial.tally.later_version += u64::from(later && refused);

@@ -1,5 +1,5 @@
 //! The samples of document 01, starred or not, sample 8 as request (i) of document 02 changes it;
-//! samples for request (ii), and those for requests (iii) to (vii), which have files of their own.
+//! samples for request (ii), and those for requests (iii) to (viii), which have files of their own.
 
 use crate::asked_samples;
 use crate::console::{plan_bytes, replay_bytes, Console};
@@ -13,12 +13,13 @@ use crate::refusal::{
 use crate::replay::Loss;
 use crate::sent_samples;
 use crate::set_samples;
+use crate::timed_samples;
 
 /// A plan's row as the samples write it: primary node, start; backup node, start.
 pub type Listed = [u64; 4];
 
 /// What replay writes for a task: primary, backup, finish.
-type Written = [u32; 3];
+pub type Written = [u32; 3];
 
 pub const SAMPLE_1: [Listed; 2] = [[0, 0, 1, 5], [0, 4, 1, 9]];
 
@@ -176,6 +177,8 @@ impl Check<'_> {
             (self.console.plan)(file, &mut out),
             (self.console.replay)(file, &plan, None, &mut out),
             (self.console.replay)(file, &plan, lost(3), &mut out),
+            (self.console.replay_times)(file, &plan, None, &[], &mut out),
+            (self.console.replay_times)(file, &plan, lost(3), &[], &mut out),
             (self.console.fault_sets)(file, &plan, &mut out),
         ];
         for got in results {
@@ -201,6 +204,7 @@ pub fn run(console: &Console) -> (usize, Vec<String>) {
     set_samples::run(&mut check);
     group_samples::run(&mut check);
     order_samples::run(&mut check);
+    timed_samples::run(&mut check);
     (check.count, check.faults)
 }
 

@@ -5,12 +5,14 @@ use crate::bookings::write_description;
 use crate::console::plan_bytes;
 use crate::descriptions::roomy_task;
 use crate::files::{
-    read_job, write_job, write_plan, Job, Link, Node, Place, Plan, Row, Task, GROUP, MAX_TIME,
-    READY, SEND, TASKS,
+    read_job, read_plan, write_job, write_plan, Job, Link, Node, Place, Plan, Row, Task, GROUP,
+    MAX_TIME, READY, SEND, TASKS,
 };
 use crate::foreign::PLAIN;
 use crate::random::Random;
 use crate::replay::Loss;
+use crate::time_lists::random_times;
+use crate::times::{listed_times, write_times};
 
 /// Ready times go up to this, so that they hold back some primaries of a large job and not others.
 const MOST_READY: u64 = 300;
@@ -26,6 +28,8 @@ pub struct PlannedJob {
     /// The planner's plan, or one by hand.
     pub plan: Vec<u8>,
     pub loss: Loss,
+    /// A list of actual times at random.
+    pub times: Vec<u8>,
 }
 
 /// The first random job of that version and size that is planned.
@@ -39,7 +43,8 @@ pub fn planned(version: u64, nodes: usize, tasks: usize, links: usize) -> Planne
     let (listed, job) = planned.expect("such jobs are planned more often than not");
     assert_eq!((PLAIN.judge)(&job, &plan), 0);
     let loss = loss_of_first(&listed, &plan);
-    PlannedJob { nodes, tasks, links, job, plan, loss }
+    let times = some_times(&listed, &plan);
+    PlannedJob { nodes, tasks, links, job, plan, loss, times }
 }
 
 /// The group of task 0's primary, lost while that runs: mostly much has to be caught up with.
@@ -47,6 +52,12 @@ fn loss_of_first(job: &Job, plan: &[u8]) -> Loss {
     let number = |at: usize| u32::from_le_bytes([0, 1, 2, 3].map(|byte| plan[at + byte]));
     let group = job.nodes[number(8) as usize].group as u32;
     Loss { group, moment: number(12) + 3 }
+}
+
+/// Each copy takes anything from 1 to its listed time, the same for a plan in every run.
+fn some_times(job: &Job, plan: &[u8]) -> Vec<u8> {
+    let plan = read_plan(job, plan).expect("it was planned, or written for the job");
+    write_times(&random_times(&mut Random::new(0), &listed_times(job, &plan)))
 }
 
 /// A job of 64 tasks on two nodes, without links, and a plan by hand: all primaries on one node and
@@ -68,8 +79,8 @@ pub fn crowded_on(primaries: usize, backups: usize) -> PlannedJob {
     let rows = primaries.into_iter().zip(backups);
     let rows = rows.map(|(primary, backup)| Row { primary, backup }).collect();
     let plan = write_plan(&Plan { rows });
-    let loss = loss_of_first(&listed, &plan);
-    PlannedJob { nodes, tasks, links, job: write_job(&listed), plan, loss }
+    let (loss, times) = (loss_of_first(&listed, &plan), some_times(&listed, &plan));
+    PlannedJob { nodes, tasks, links, job: write_job(&listed), plan, loss, times }
 }
 
 /// A planned job, and a task to ask for and to book beside its plan.

@@ -13,7 +13,7 @@ extern "C" {
     fn stack_used(call: extern "C" fn(*mut c_void), argument: *mut c_void) -> usize;
 }
 
-type Used = [(&'static str, usize); 7];
+type Used = [(&'static str, usize); 9];
 
 /// Each function with the bytes of stack that it uses, in the version that takes most.
 pub fn used(console: &Console) -> Used {
@@ -35,12 +35,15 @@ fn used_in(console: &Console, version: u64) -> Used {
     let (held, held_plan) = (&new.held.job, &new.held.plan);
     let (mut longer, mut booked) = (vec![0; new.rooms.0], vec![0; new.rooms.1]);
     let mut places = [0; 4];
+    let timed = |loss, out: &mut [u8]| (console.replay_times)(job, plan, loss, &case.times, out);
     let mut commit = || (console.commit)(held, held_plan, &new.booking, &mut longer, &mut booked);
     [
         ("judge", measure(|| (console.judge)(job, plan))),
         ("plan", measure(|| (console.plan)(job, &mut planned))),
         ("replay", measure(|| (console.replay)(job, plan, None, &mut replayed))),
         ("replay_loss", measure(|| (console.replay)(job, plan, Some(case.loss), &mut replayed))),
+        ("replay_times", measure(|| timed(None, &mut replayed))),
+        ("replay_times_loss", measure(|| timed(Some(case.loss), &mut replayed))),
         ("ask", measure(|| (console.ask)(held, held_plan, &new.task, &mut places))),
         ("commit", measure(&mut commit)),
         ("fault_sets", measure(|| (console.fault_sets)(job, plan, &mut sets))),

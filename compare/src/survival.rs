@@ -1,10 +1,11 @@
 //! Demand 3 on what replay wrote for a passed plan. It takes nothing from the rules or the replay
-//! of this package: only the job, the plan, the loss and the bytes.
+//! of this package: only the job, the plan, the ticks that copies take, the loss and the bytes.
 
-use crate::files::{Job, Plan};
+use crate::files::{Job, Plan, Row};
 use crate::replay::Loss;
+use crate::times::{listed_times, Ticks};
 
-/// A planned copy: task, whether it is the backup, and the ticks it is listed for.
+/// A planned copy: task, whether it is the backup, and the ticks from its start to its end.
 struct Span {
     task: usize,
     is_backup: bool,
@@ -16,6 +17,8 @@ struct Span {
 pub struct Survival<'a> {
     job: &'a Job,
     pub plan: &'a Plan,
+    /// The end of each task's primary and backup, if nothing stops them.
+    ends: Vec<[u64; 2]>,
     /// All copies by node, then start.
     spans: Vec<Span>,
 }
@@ -41,16 +44,26 @@ fn written(rows: &[u8], task: usize) -> Written {
 }
 
 impl<'a> Survival<'a> {
+    /// Every copy takes the time that is listed for it.
     pub fn new(job: &'a Job, plan: &'a Plan) -> Survival<'a> {
+        Survival::with_times(job, plan, &listed_times(job, plan))
+    }
+
+    pub fn with_times(job: &'a Job, plan: &'a Plan, times: &[Ticks]) -> Survival<'a> {
+        let rows = plan.rows.iter().zip(times);
+        let end = |(row, ticks): (&Row, &Ticks)| {
+            [row.primary.start + ticks.primary, row.backup.start + ticks.backup]
+        };
+        let ends: Vec<[u64; 2]> = rows.map(end).collect();
         let mut spans = Vec::new();
         for (task, row) in plan.rows.iter().enumerate() {
-            for (is_backup, place) in [(false, row.primary), (true, row.backup)] {
-                let finish = place.start + job.tasks[task].run[place.node];
+            let copies = [(false, row.primary), (true, row.backup)];
+            for ((is_backup, place), finish) in copies.into_iter().zip(ends[task]) {
                 spans.push(Span { task, is_backup, node: place.node, start: place.start, finish });
             }
         }
         spans.sort_by_key(|span| (span.node, span.start));
-        Survival { job, plan, spans }
+        Survival { job, plan, ends, spans }
     }
 
     /// The latest finish of all copies.
@@ -67,30 +80,32 @@ impl<'a> Survival<'a> {
         })
     }
 
+    /// The last moments for each group at which its loss does what it does: a tick later one copy
+    /// more has started there, or has ended. They stand for all up to the end.
+    pub fn last_moments(&self) -> impl Iterator<Item = (u64, u64)> + '_ {
+        self.spans.iter().flat_map(|span| {
+            [span.start, span.finish - 1].map(|moment| (self.job.nodes[span.node].group, moment))
+        })
+    }
+
     /// What is wrong with the rows written for a loss, if anything is.
     pub fn fault(&self, loss: Option<Loss>, rows: &[u8]) -> Option<String> {
         let fault = self.unfinished(rows).or_else(|| self.doubly_held(loss, rows));
         fault.or_else(|| self.unfed(rows)).or_else(|| self.too_soon(rows))
     }
 
-    /// Exactly one copy of each task is finished, at its listed finish, from 1 to the deadline.
+    /// Exactly one copy of each task is finished, at its end, from 1 to the deadline.
     fn unfinished(&self, rows: &[u8]) -> Option<String> {
         let sound = |task: usize| {
             let row = written(rows, task);
             row.primary <= FINISHED
                 && row.backup <= FINISHED
                 && (row.primary == FINISHED) != (row.backup == FINISHED)
-                && row.finish == self.listed_finish(task, row.backup == FINISHED)
+                && row.finish == self.ends[task][usize::from(row.backup == FINISHED)]
                 && (1..=self.job.tasks[task].deadline).contains(&row.finish)
         };
         let task = (0..self.job.tasks.len()).find(|&task| !sound(task))?;
         Some(format!("task {task} has no copy, or two, finished by its deadline"))
-    }
-
-    fn listed_finish(&self, task: usize, is_backup: bool) -> u64 {
-        let row = &self.plan.rows[task];
-        let place = if is_backup { row.backup } else { row.primary };
-        place.start + self.job.tasks[task].run[place.node]
     }
 
     /// No tick of a node is held by two started copies. Along the spans by node and start, a copy
@@ -123,12 +138,12 @@ impl<'a> Survival<'a> {
             let (sender, receiver) = (written(rows, link.from), self.plan.rows[link.to].backup);
             let places = self.plan.rows[link.from];
             let there = [(sender.primary, places.primary), (sender.backup, places.backup)];
-            let fed = there.into_iter().any(|(state, place)| {
-                let finish = place.start + self.job.tasks[link.from].run[place.node];
-                let sent = finish + self.job.nodes[place.node].send + link.delay;
-                let there = if place.node == receiver.node { finish } else { sent };
-                state == FINISHED && there <= receiver.start
-            });
+            let fed =
+                there.into_iter().zip(self.ends[link.from]).any(|((state, place), finish)| {
+                    let sent = finish + self.job.nodes[place.node].send + link.delay;
+                    let there = if place.node == receiver.node { finish } else { sent };
+                    state == FINISHED && there <= receiver.start
+                });
             if !fed {
                 return Some(format!("the backup of task {} lacks task {}", link.to, link.from));
             }
@@ -151,7 +166,7 @@ mod tests {
     use crate::console::{replay_bytes, SECOND};
     use crate::files::{write_job, write_plan};
     use crate::samples::{
-        job, plan_of, with_groups, with_ready, with_send, without_link, SAMPLE_1,
+        job, plan_of, with_groups, with_ready, with_send, without_link, Listed, SAMPLE_1,
     };
 
     fn fault_of(job: &Job, plan: &Plan, loss: Option<Loss>) -> Option<String> {
@@ -244,5 +259,52 @@ mod tests {
         assert!(fault(5, cut).is_some_and(|text| text.contains("before it was ready")));
         // Held back, the primary is not started, and the backup need not wait.
         assert_eq!(fault(20, [2, 0, 4, 0, 2, 12]), None);
+    }
+
+    /// The fault of a run with a list: the ticks of both copies of both tasks.
+    fn fault_with(rows: [Listed; 2], list: [u64; 4], told: [u32; 6]) -> Option<String> {
+        let (job, plan) = (job(), plan_of(rows));
+        let ticks = |at: usize| Ticks { primary: list[at], backup: list[at + 1] };
+        let told: Vec<u8> = told.into_iter().flat_map(u32::to_le_bytes).collect();
+        Survival::with_times(&job, &plan, &[ticks(0), ticks(2)]).fault(lost(0, 3), &told)
+    }
+
+    #[test]
+    fn a_copy_holds_its_node_until_it_ends() {
+        // The second primary starts at 2.
+        let rows = [[0, 0, 1, 5], [0, 2, 1, 9]];
+        assert_eq!(fault_with(rows, [2, 4, 1, 3], [2, 0, 2, 2, 0, 3]), None);
+        let fault = fault_with(rows, [3, 4, 1, 3], [2, 0, 3, 2, 0, 3]);
+        assert!(fault.is_some_and(|text| text.contains("held node")));
+    }
+
+    #[test]
+    fn a_finish_told_as_listed_is_found() {
+        assert_eq!(fault_with(SAMPLE_1, [2, 4, 3, 1], [2, 0, 2, 0, 2, 10]), None);
+        for told in [[2, 0, 4, 0, 2, 10], [2, 0, 2, 0, 2, 12]] {
+            let fault = fault_with(SAMPLE_1, [2, 4, 3, 1], told);
+            assert!(fault.is_some_and(|text| text.contains("no copy")));
+        }
+    }
+
+    #[test]
+    fn an_input_leaves_when_its_copy_ends() {
+        // The first backup's result is on node 2 two ticks after its end, at 9 if it takes 2.
+        let rows = [[0, 0, 1, 5], [0, 4, 2, 9]];
+        assert_eq!(fault_with(rows, [4, 2, 3, 3], [1, 2, 7, 0, 2, 12]), None);
+        let fault = fault_with(rows, [4, 3, 3, 3], [1, 2, 8, 0, 2, 12]);
+        assert!(fault.is_some_and(|text| text.contains("lacks")));
+    }
+
+    #[test]
+    fn a_group_is_lost_at_the_moments_of_early_ends() {
+        let (job, plan) = (job(), plan_of(SAMPLE_1));
+        let times = [Ticks { primary: 2, backup: 4 }, Ticks { primary: 1, backup: 3 }];
+        let survival = Survival::with_times(&job, &plan, &times);
+        let moments = survival.moments().filter(|&(group, _)| group == 0);
+        assert_eq!(moments.map(|(_, moment)| moment).collect::<Vec<_>>(), [0, 0, 1, 2, 3, 4, 4, 5]);
+        let last = survival.last_moments().filter(|&(group, _)| group == 0);
+        assert_eq!(last.map(|(_, moment)| moment).collect::<Vec<_>>(), [0, 1, 4, 4]);
+        assert_eq!(survival.end(), 12);
     }
 }

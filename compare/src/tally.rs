@@ -4,11 +4,12 @@ use std::fmt;
 
 use crate::files::NEWEST;
 use crate::refusal::{number_of, TOO_SOON, WORDS};
+use crate::time_lists::FAULTS;
 use crate::trial::Function;
 
 /// The columns of results. The last two count again what was asked and committed on a pair that
 /// passes, where the fault, if any, is in the description or the booking.
-const COLUMNS: [&str; 9] = [
+const COLUMNS: [&str; 11] = [
     "judge",
     "plan",
     "replay",
@@ -16,18 +17,22 @@ const COLUMNS: [&str; 9] = [
     "ask",
     "commit",
     "fault_sets",
+    "replay_times",
+    "times_loss",
     "held: ask",
     "held: commit",
 ];
-const HELD_ASK: usize = 7;
-const HELD_COMMIT: usize = 8;
+const HELD_ASK: usize = 9;
+const HELD_COMMIT: usize = 10;
 
-/// The refusals that ask, commit and fault_sets can give, and which of the first two on a pair that
-/// passes.
-const WANTED: [(usize, &[usize]); 5] = [
+/// The refusals that ask, commit, fault_sets and replays with a list can give, and which of the
+/// first two on a pair that passes.
+const WANTED: [(usize, &[usize]); 7] = [
     (4, &[1, 2, 3, 4, 5, 6, 7, 8, 9, 10, 11, 12, 13, 14, 15, 16, 19, 20]),
     (5, &[1, 2, 3, 4, 5, 6, 7, 8, 9, 10, 11, 12, 13, 14, 17, 19, 20, 21]),
     (6, &[1, 2, 3, 4, 5, 6, 7, 17]),
+    (7, &[1, 2, 3, 4, 5, 6, 7, 17]),
+    (8, &[1, 2, 3, 4, 5, 6, 7, 17, 18]),
     (HELD_ASK, &[1, 3, 4, 5, 6, 15, 16, 20]),
     (HELD_COMMIT, &[1, 3, 4, 5, 6, 7, 17, 20, 21]),
 ];
@@ -113,6 +118,24 @@ pub struct Tally {
     pub one_node_full: u64,
     pub two_nodes_passed: u64,
     pub two_nodes_refused: u64,
+    /// By kind of list.
+    pub timed_lists: [u64; 3],
+    pub timed_survived: [u64; 3],
+    pub timed_every_tick: u64,
+    pub timed_version: [u64; NEWEST as usize],
+    pub timed_otherwise: u64,
+    pub outlived_otherwise: u64,
+    pub timed_sooner: u64,
+    pub outlasted_by_end: u64,
+    pub fed_by_end: u64,
+    pub fed_without_loss: u64,
+    pub kept_back: u64,
+    pub timed_by_swap: u64,
+    /// By kind of fault.
+    pub lists_refused: [u64; FAULTS.len()],
+    pub lists_before_room: u64,
+    pub missing_before_list: u64,
+    pub timed_short: u64,
 }
 
 /// Something counted: how often it was met, in words, and how often a run of the default count has
@@ -133,6 +156,8 @@ impl Tally {
             Function::Ask(_) => 4,
             Function::Commit(..) => 5,
             Function::FaultSets => 6,
+            Function::ReplayTimes(None, _) => 7,
+            Function::ReplayTimes(Some(_), _) => 8,
         };
         self.results[column][number_of(code)] += 1;
     }
@@ -147,7 +172,7 @@ impl Tally {
         self.results.iter().map(|column| column[number]).sum()
     }
 
-    /// What ask, commit and fault_sets should have given, in words.
+    /// What ask, commit, fault_sets and replays with a list should have given, in words.
     pub fn not_given(&self) -> impl Iterator<Item = String> + '_ {
         let all =
             WANTED.iter().flat_map(|&(column, numbers)| numbers.iter().map(move |&n| (column, n)));
@@ -178,6 +203,7 @@ impl Tally {
         let counts = counts.chain(self.sequence_counts()).chain(self.send_counts());
         let counts = counts.chain(self.set_counts()).chain(self.group_counts());
         let counts = counts.chain(self.order_counts()).chain(self.crowd_counts());
+        let counts = counts.chain(self.timed_counts()).chain(self.list_counts());
         counts.map(|(met, least, words)| Count { met, words, least })
     }
 
@@ -291,6 +317,50 @@ impl Tally {
             (self.one_node_full, 40, "plans with 128 copies on one node"),
             (self.two_nodes_passed, 20, "passed plans with 64 copies on each of two nodes"),
             (self.two_nodes_refused, 40, "plans refused 14 with 64 copies on each of two nodes"),
+        ]
+    }
+
+    /// Request (viii): runs with a list, and what early ends do in them.
+    fn timed_counts(&self) -> [(u64, u64, &'static str); 19] {
+        let ([random, ones, listed], [a, b, c]) = (self.timed_lists, self.timed_survived);
+        let [v1, v2, v3, v4] = self.timed_version;
+        [
+            (random, 50_000, "replays with a list at random"),
+            (ones, 25_000, "replays with a list of ones"),
+            (listed, 25_000, "replays with the listed times, as without a list"),
+            (v1, 15_000, "replays with a list for version 1 jobs"),
+            (v2, 15_000, "replays with a list for version 2 jobs"),
+            (v3, 15_000, "replays with a list for version 3 jobs"),
+            (v4, 15_000, "replays with a list for version 4 jobs"),
+            (self.timed_otherwise, 5_000, "replays that go otherwise with the listed times"),
+            (self.outlived_otherwise, 1_500, "such replays of passed plans"),
+            (self.timed_sooner, 50_000, "replays with a finish before the listed one"),
+            (self.outlasted_by_end, 3_000, "replays with a copy done before the loss by its end"),
+            (self.fed_by_end, 1_800, "replays with an input there by an early end"),
+            (self.fed_without_loss, 600, "such replays of refused plans without loss"),
+            (self.kept_back, 600, "replays of refused plans that rule B by ends would change"),
+            (self.timed_by_swap, 35_000, "replays that go otherwise with a task's times swapped"),
+            (a, 200_000, "runs with a list at random held to demand 3"),
+            (b, 200_000, "runs with a list of ones held to demand 3"),
+            (c, 200_000, "runs with a list of the listed times held to demand 3"),
+            (self.timed_every_tick, 250, "lists with every group lost at every tick"),
+        ]
+    }
+
+    /// Request (viii): refusals of a list, and beside it.
+    fn list_counts(&self) -> [(u64, u64, &'static str); 10] {
+        let [cut, tail, zero, one_more, greatest, other_node, swapped] = self.lists_refused;
+        [
+            (cut, 3_000, "lists refused 1, cut"),
+            (tail, 3_000, "lists refused 6, with a tail"),
+            (zero, 3_000, "lists refused 4 for a 0"),
+            (one_more, 3_000, "lists refused 4 for a tick more than listed"),
+            (greatest, 3_000, "lists refused 4 for 4,294,967,295"),
+            (other_node, 2_500, "lists refused 4 for the time of another node"),
+            (swapped, 2_500, "lists refused 4 for a task's listed times swapped"),
+            (self.lists_before_room, 15_000, "lists refused before 17"),
+            (self.missing_before_list, 12_000, "losses refused 18 before a faulty list"),
+            (self.timed_short, 6_000, "good lists refused 17"),
         ]
     }
 }

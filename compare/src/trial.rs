@@ -13,6 +13,8 @@ pub enum Function<'a> {
     Judge,
     Plan,
     Replay(Option<Loss>),
+    /// With the list of actual times.
+    ReplayTimes(Option<Loss>, &'a [u8]),
     /// With the description.
     Ask(&'a [u8]),
     /// With the booking, and the length of the plan's output buffer.
@@ -25,6 +27,25 @@ impl<'a> Function<'a> {
     fn entry(self) -> &'a [u8] {
         match self {
             Function::Ask(entry) | Function::Commit(entry, _) => entry,
+            _ => &[],
+        }
+    }
+
+    /// The list of actual times.
+    fn times(self) -> &'a [u8] {
+        if let Function::ReplayTimes(_, times) = self {
+            times
+        } else {
+            &[]
+        }
+    }
+
+    /// What is read beside job and plan.
+    fn third(self) -> &'a [u8] {
+        match self {
+            Function::Ask(third) | Function::Commit(third, _) | Function::ReplayTimes(_, third) => {
+                third
+            }
             _ => &[],
         }
     }
@@ -52,6 +73,7 @@ impl fmt::Display for Call<'_> {
         let job = format!("job of {} bytes", self.job.len());
         let plan = format!("plan of {} bytes", self.plan.len());
         let entry = self.function.entry().len();
+        let times = format!("list of {} bytes", self.function.times().len());
         let room = format!("buffer of {} bytes", self.room);
         match self.function {
             Function::Judge => write!(f, "judge({job}, {plan})"),
@@ -59,6 +81,13 @@ impl fmt::Display for Call<'_> {
             Function::Replay(None) => write!(f, "replay({job}, {plan}, {room})"),
             Function::Replay(Some(Loss { group, moment })) => {
                 write!(f, "replay_loss({job}, {plan}, group {group}, moment {moment}, {room})")
+            }
+            Function::ReplayTimes(None, _) => {
+                write!(f, "replay_times({job}, {plan}, {times}, {room})")
+            }
+            Function::ReplayTimes(Some(Loss { group, moment }), _) => {
+                write!(f, "replay_times_loss({job}, {plan}, group {group}, moment {moment}, ")?;
+                write!(f, "{times}, {room})")
             }
             Function::Ask(_) => write!(f, "ask({job}, {plan}, task of {entry} bytes)"),
             Function::Commit(_, plan_room) => {
@@ -78,6 +107,8 @@ pub struct Mismatch {
     pub plan: Vec<u8>,
     /// The description or the booking; empty if the call has none.
     pub entry: Vec<u8>,
+    /// The list of actual times; empty if the call has none.
+    pub times: Vec<u8>,
 }
 
 impl Mismatch {
@@ -87,6 +118,7 @@ impl Mismatch {
             job: call.job.to_vec(),
             plan: call.plan.to_vec(),
             entry: call.function.entry().to_vec(),
+            times: call.function.times().to_vec(),
         }
     }
 }
@@ -98,7 +130,7 @@ pub struct Trial {
     calls: usize,
     job: Framed,
     plan: Framed,
-    entry: Framed,
+    third: Framed,
     out: Framed,
     out_plan: Framed,
     places: FramedPlaces,
@@ -115,7 +147,7 @@ impl Trial {
             calls: 0,
             job: Framed::default(),
             plan: Framed::default(),
-            entry: Framed::default(),
+            third: Framed::default(),
             out: Framed::default(),
             out_plan: Framed::default(),
             places: FramedPlaces::new(0),
@@ -169,14 +201,14 @@ impl Trial {
         self.expected_places = FramedPlaces::new(salt);
         self.job.lay(call.job, self.calls);
         self.plan.lay(call.plan, self.calls / 8);
-        self.entry.lay(call.function.entry(), self.calls / 16);
+        self.third.lay(call.function.third(), self.calls / 16);
         self.out.lay(&self.expected, self.calls / 64);
         self.out_plan.lay(&self.expected_plan, self.calls / 32);
         self.places = FramedPlaces::new(salt);
     }
 
     fn call(&mut self, function: Function) -> u64 {
-        let inputs = [self.job.inside(), self.plan.inside(), self.entry.inside()];
+        let inputs = [self.job.inside(), self.plan.inside(), self.third.inside()];
         let outputs = Outputs {
             first: self.out.inside(),
             second: self.out_plan.inside(),
@@ -191,14 +223,14 @@ impl Trial {
             second: &mut self.expected_plan,
             places: self.expected_places.inside(),
         };
-        make(&SECOND, call.function, [call.job, call.plan, call.function.entry()], outputs)
+        make(&SECOND, call.function, [call.job, call.plan, call.function.third()], outputs)
     }
 
     fn buffer_fault(&self, call: &Call) -> Option<String> {
         let inputs = [
             (&self.job, call.job, "job"),
             (&self.plan, call.plan, "plan"),
-            (&self.entry, call.function.entry(), "description or booking"),
+            (&self.third, call.function.third(), "description, booking or list"),
         ];
         if let Some((.., name)) = inputs.iter().find(|(frame, content, _)| !frame.holds(content)) {
             return Some(format!("changed the {name} or bytes beside it"));
@@ -217,14 +249,15 @@ struct Outputs<'a> {
 }
 
 fn make(console: &Console, function: Function, inputs: [&[u8]; 3], outputs: Outputs) -> u64 {
-    let [job, plan, entry] = inputs;
+    let [job, plan, third] = inputs;
     let Outputs { first, second, places } = outputs;
     match function {
         Function::Judge => (console.judge)(job, plan),
         Function::Plan => (console.plan)(job, first),
         Function::Replay(loss) => (console.replay)(job, plan, loss, first),
-        Function::Ask(_) => (console.ask)(job, plan, entry, places),
-        Function::Commit(..) => (console.commit)(job, plan, entry, first, second),
+        Function::ReplayTimes(loss, _) => (console.replay_times)(job, plan, loss, third, first),
+        Function::Ask(_) => (console.ask)(job, plan, third, places),
+        Function::Commit(..) => (console.commit)(job, plan, third, first, second),
         Function::FaultSets => (console.fault_sets)(job, plan, first),
     }
 }

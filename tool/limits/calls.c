@@ -7,7 +7,8 @@
 
 static const char *const call_names[CALLS] = {
     "seqopchi_judge", "seqopchi_plan", "seqopchi_replay", "seqopchi_replay_loss",
-    "seqopchi_fault_sets", "seqopchi_ask", "seqopchi_commit"
+    "seqopchi_replay_times", "seqopchi_replay_times_loss", "seqopchi_fault_sets",
+    "seqopchi_ask", "seqopchi_commit"
 };
 
 const char *const field_names[FIELDS] = {
@@ -16,7 +17,7 @@ const char *const field_names[FIELDS] = {
     "primary's node", "primary's start", "backup's node", "backup's start",
     "new ready time", "new deadline", "new run time", "new links", "new from",
     "new delay", "new primary's node", "new primary's start", "new backup's node",
-    "new backup's start"
+    "new backup's start", "primary's time", "backup's time"
 };
 
 const uint32_t since[FIELDS] = {
@@ -27,12 +28,13 @@ const uint32_t usual[FIELDS] = {
     [NODES] = 3, [DETECT] = 1, [TASKS] = 40, [DEADLINE] = 9999, [RUN] = 4,
     [LINKS] = 2, [DELAY] = 2, [PLAN_VERSION] = SEQOPCHI_PLAN_VERSION, [BACKUP] = 1,
     [NEW_DEADLINE] = 9999, [NEW_RUN] = 4, [NEW_LINKS] = 2, [NEW_DELAY] = 2,
-    [NEW_PRIMARY_START] = 5000, [NEW_BACKUP] = 1, [NEW_BACKUP_START] = 6000
+    [NEW_PRIMARY_START] = 5000, [NEW_BACKUP] = 1, [NEW_BACKUP_START] = 6000,
+    [PRIMARY_TIME] = 1, [BACKUP_TIME] = 1
 };
 
 uint32_t version;
 uint32_t numbers[FIELDS];
-struct file job, plan, task, booking;
+struct file job, plan, task, booking, times;
 uint8_t out[ROOM], out_plan[ROOM];
 size_t plan_room = ROOM;
 uint32_t places[4];
@@ -160,6 +162,15 @@ void write_task(void)
         put(&booking, field, numbers[field]);
 }
 
+void write_times(void)
+{
+    times.length = 0;
+    for (uint32_t t = 0; t < numbers[TASKS]; t++) {
+        put(&times, PRIMARY_TIME, numbers[PRIMARY_TIME]);
+        put(&times, BACKUP_TIME, numbers[BACKUP_TIME]);
+    }
+}
+
 void write_files(enum field field, uint32_t number)
 {
     memcpy(numbers, usual, sizeof numbers);
@@ -168,6 +179,7 @@ void write_files(enum field field, uint32_t number)
     write_job();
     write_plan();
     write_task();
+    write_times();
 }
 
 void take_planned(void)
@@ -208,6 +220,13 @@ uint64_t result_of(enum call call, size_t out_len)
     case LOSS:
         return seqopchi_replay_loss(job.data, job.length, plan.data, plan.length,
                                     lost_group, lost_moment, out, out_len);
+    case TIMES:
+        return seqopchi_replay_times(job.data, job.length, plan.data, plan.length,
+                                     times.data, times.length, out, out_len);
+    case TIMES_LOSS:
+        return seqopchi_replay_times_loss(job.data, job.length, plan.data, plan.length,
+                                          lost_group, lost_moment,
+                                          times.data, times.length, out, out_len);
     case SETS:
         return seqopchi_fault_sets(job.data, job.length, plan.data, plan.length,
                                    out, out_len);

@@ -3,7 +3,7 @@
 #include "limits.h"
 
 /* Just these groups, as bits, can be lost. Another is refused before too little room. */
-static void expect_losable(uint32_t groups)
+static void expect_losable_by(enum call call, uint32_t groups)
 {
     static const uint32_t far[] = {
         32, 255, 256, 65536, UINT32_C(1) << 31, UINT32_MAX - 1, UINT32_MAX
@@ -12,18 +12,24 @@ static void expect_losable(uint32_t groups)
 
     for (lost_group = 0; lost_group < 32; lost_group++) {
         if (groups >> lost_group & 1) {
-            expect_kept(LOSS, 0, SEQOPCHI_REFUSED_SHORT_BUFFER, length, 0);
-            expect(LOSS, length, SEQOPCHI_DONE, 0, 0);
+            expect_kept(call, 0, SEQOPCHI_REFUSED_SHORT_BUFFER, length, 0);
+            expect(call, length, SEQOPCHI_DONE, 0, 0);
             continue;
         }
-        expect_kept(LOSS, 0, SEQOPCHI_REFUSED_NO_SUCH_NODE, lost_group, 0);
-        expect_kept(LOSS, ROOM, SEQOPCHI_REFUSED_NO_SUCH_NODE, lost_group, 0);
+        expect_kept(call, 0, SEQOPCHI_REFUSED_NO_SUCH_NODE, lost_group, 0);
+        expect_kept(call, ROOM, SEQOPCHI_REFUSED_NO_SUCH_NODE, lost_group, 0);
     }
     for (size_t i = 0; i < COUNT_OF(far); i++) {
         lost_group = far[i];
-        expect_kept(LOSS, ROOM, SEQOPCHI_REFUSED_NO_SUCH_NODE, lost_group, 0);
+        expect_kept(call, ROOM, SEQOPCHI_REFUSED_NO_SUCH_NODE, lost_group, 0);
     }
     lost_group = 0;
+}
+
+static void expect_losable(uint32_t groups)
+{
+    expect_losable_by(LOSS, groups);
+    expect_losable_by(TIMES_LOSS, groups);
 }
 
 /* So many nodes, each in a group of its own, from this one round. */

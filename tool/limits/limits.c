@@ -10,7 +10,7 @@ static const size_t longest[SEQOPCHI_NEWEST_JOB_VERSION + 1] = {
     0, 10576, 10832, 10896, 10960
 };
 
-/* Both files read well: judge, ask and commit get to the rules, the others lack
+/* All files read well: judge, ask and commit get to the rules, the others lack
  * room. */
 static void expect_read(void)
 {
@@ -130,6 +130,8 @@ static void check_plan_lengths(uint32_t tasks, const char *plan_macro, size_t pl
     expect(JUDGE, 0, SEQOPCHI_DONE, 0, 0);
     check_output(replay_macro, REPLAY, replay_bytes);
     check_output(replay_macro, LOSS, replay_bytes);
+    check_output(replay_macro, TIMES, replay_bytes);
+    check_output(replay_macro, TIMES_LOSS, replay_bytes);
 }
 
 static void check_lengths(void)
@@ -283,6 +285,7 @@ static void check_version(void)
     check_losses();
     check_asking();
     check_sets();
+    check_times();
     if (version >= since[READY])
         check_readiness();
     if (version >= since[SEND])

@@ -10,15 +10,19 @@
 
 #define OLDEST_JOB_VERSION 1
 
-enum call { JUDGE, PLAN, REPLAY, LOSS, SETS, ASK, COMMIT, CALLS };
+enum call {
+    JUDGE, PLAN, REPLAY, LOSS, TIMES, TIMES_LOSS, SETS, ASK, COMMIT, CALLS
+};
 
-/* The numbers of a job, of a plan, of a description and of a booking's place. */
+/* The numbers of a job, of a plan, of a description, of a booking's place and of a list
+ * of times. */
 enum field {
     VERSION, NODES, DETECT, SEND, GROUP, TASKS,
     READY, DEADLINE, RUN, LINKS, FROM, TO, DELAY,
     PLAN_VERSION, ROWS, PRIMARY, PRIMARY_START, BACKUP, BACKUP_START,
     NEW_READY, NEW_DEADLINE, NEW_RUN, NEW_LINKS, NEW_FROM, NEW_DELAY,
-    NEW_PRIMARY, NEW_PRIMARY_START, NEW_BACKUP, NEW_BACKUP_START, FIELDS
+    NEW_PRIMARY, NEW_PRIMARY_START, NEW_BACKUP, NEW_BACKUP_START,
+    PRIMARY_TIME, BACKUP_TIME, FIELDS
 };
 
 extern const char *const field_names[FIELDS];
@@ -37,7 +41,7 @@ struct file {
 
 extern uint32_t version;         /* the usual one of a job */
 extern uint32_t numbers[FIELDS]; /* what the files are made of */
-extern struct file job, plan, task, booking;
+extern struct file job, plan, task, booking, times;
 extern uint8_t out[ROOM], out_plan[ROOM]; /* of a commit: longer job, longer plan */
 extern size_t plan_room;                  /* how much of out_plan a commit is given */
 extern uint32_t places[4];
@@ -54,6 +58,7 @@ void set_nodes(enum field field, const uint32_t *values, uint32_t nodes);
 void put(struct file *f, enum field field, uint32_t number);
 void write_job(void);
 void write_task(void); /* and the booking */
+void write_times(void);
 /* The usual files with one number changed. */
 void write_files(enum field field, uint32_t number);
 /* The same, and the planner's plan of the job. */
@@ -99,5 +104,8 @@ void check_groups(void);
 
 /* Fault sets: lengths, what is written, and the order of refusals. */
 void check_sets(void);
+
+/* Lists of times: limits, lengths, the order of refusals, and what they change. */
+void check_times(void);
 
 #endif

@@ -41,6 +41,8 @@ enum Work {
     Plan,
     Replay,
     ReplayLoss,
+    ReplayTimes,
+    ReplayTimesLoss,
     // On a job of 64 tasks they would be refused as full. There the job has a task fewer, and the
     // links of the one that is asked for: the longer job has the size of the other rows.
     Ask,
@@ -48,12 +50,14 @@ enum Work {
     FaultSets,
 }
 
-const WORKS: [(Work, &str); 8] = [
+const WORKS: [(Work, &str); 10] = [
     (Work::Reading, "reading the job"),
     (Work::Judge, "judge"),
     (Work::Plan, "plan"),
     (Work::Replay, "replay"),
     (Work::ReplayLoss, "replay_loss"),
+    (Work::ReplayTimes, "replay_times"),
+    (Work::ReplayTimesLoss, "replay_times_loss"),
     (Work::Ask, "ask"),
     (Work::Commit, "commit"),
     (Work::FaultSets, "fault_sets"),
@@ -164,11 +168,11 @@ fn case(name: &'static str, version: u64, nodes: usize, tasks: usize, links: usi
 
 /// The works on a plan that the judge refuses, its own among them.
 fn is_for_any_plan(work: Work) -> bool {
-    matches!(work, Work::Judge | Work::Replay | Work::ReplayLoss | Work::FaultSets)
+    !matches!(work, Work::Reading | Work::Plan | Work::Ask | Work::Commit)
 }
 
 fn call(console: &Console, case: &Case, work: Work, out: &mut Output) -> u64 {
-    let PlannedJob { job, plan, loss, .. } = &case.sized;
+    let PlannedJob { job, plan, loss, times, .. } = &case.sized;
     let AskedJob { held, task, booking, .. } = &case.asked;
     let Output { bytes, places, longer_job, longer_plan } = out;
     match work {
@@ -177,6 +181,8 @@ fn call(console: &Console, case: &Case, work: Work, out: &mut Output) -> u64 {
         Work::Plan => (console.plan)(job, bytes),
         Work::Replay => (console.replay)(job, plan, None, bytes),
         Work::ReplayLoss => (console.replay)(job, plan, Some(*loss), bytes),
+        Work::ReplayTimes => (console.replay_times)(job, plan, None, times, bytes),
+        Work::ReplayTimesLoss => (console.replay_times)(job, plan, Some(*loss), times, bytes),
         Work::Ask => (console.ask)(&held.job, &held.plan, task, places),
         Work::Commit => (console.commit)(&held.job, &held.plan, booking, longer_job, longer_plan),
         Work::FaultSets => (console.fault_sets)(job, plan, bytes),

@@ -10,7 +10,7 @@ use compare::random::Random;
 use compare::refusal::WORDS;
 use compare::tally::Tally;
 use compare::trial::{Mismatch, Trial};
-use compare::{crowds, entries, fills, rounds, sequences};
+use compare::{crowds, entries, fills, rounds, sequences, timed};
 
 const DEFAULT_COUNT: u64 = 5_000;
 const DEFAULT_SEED: u64 = 1;
@@ -26,7 +26,8 @@ const USAGE: &str = "usage: compare [--count JOBS] [--seed NUMBER] [--out FOLDER
                [--console library|plain|tuned|second]
   --count    random jobs to try
   --seed     where the random numbers start
-  --out      where job.bin, plan.bin and task.bin are written after a mismatch (default: here)
+  --out      where job.bin, plan.bin, task.bin and times.bin are written after a mismatch
+             (default: here)
   --pair     try these of a folder instead of random jobs
   --console  which implementation to hold to the second one (default: library)";
 
@@ -127,16 +128,20 @@ fn try_pair(trial: &mut Trial, folder: &Path) -> Result<(), Mismatch> {
     };
     let (job, plan) = (read("job.bin"), read("plan.bin"));
     rounds::pair(trial, &job, &plan)?;
-    match fs::read(folder.join("task.bin")) {
-        Ok(entry) => entries::entry(trial, &job, &plan, &entry),
+    if let Ok(entry) = fs::read(folder.join("task.bin")) {
+        entries::entry(trial, &job, &plan, &entry)?;
+    }
+    match fs::read(folder.join("times.bin")) {
+        Ok(times) => timed::list(trial, &job, &plan, &times),
         Err(_) => Ok(()),
     }
 }
 
 fn report(mismatch: &Mismatch, folder: &Path) {
     println!("MISMATCH: {}", mismatch.text);
-    let Mismatch { job, plan, entry, .. } = mismatch;
-    for (name, bytes) in [("job.bin", job), ("plan.bin", plan), ("task.bin", entry)] {
+    let Mismatch { job, plan, entry, times, .. } = mismatch;
+    let files = [("job.bin", job), ("plan.bin", plan), ("task.bin", entry), ("times.bin", times)];
+    for (name, bytes) in files {
         let path = folder.join(name);
         match fs::write(&path, bytes) {
             Ok(()) => println!("written: {}", path.display()),

@@ -3,7 +3,7 @@ use Prim.Native.Nat.{ℕ, _≤_}
 use native.Mathlib.Omega.{arith}
 use mathlib.Core.Path.{_≡_, sym, ap, _∙_, subst}
 use mathlib.Core.List.{List}
-use mathlib.Core.Option.{none}
+use mathlib.Core.Option.{Option, none}
 use lib.ListN.{length, replicate, length-replicate}
 use borrow.Author.Tests.{le-leb}
 use Rattle.reader.specs.declared.plan.Place.{Place}
@@ -43,10 +43,10 @@ pub held-files-pass : (a c : Files) → FileCalls a c → FilesPass a → FilesP
 held-files-pass a c begin p = p
 held-files-pass a c (next {b} s call) p = call-passes b c call (held-files-pass a b s p)
 
--- and so survives any one loss, as replay's bytes show
-pub held-files-survive : (a c : Files) → FileCalls a c → FilesPass a → (loss : Loss) (out : List ℕ)
-    → result (replayFiles (c .job) (c .plan) loss out .answer) ≡ 0 → FilesSurvive (c .job) (c .plan) loss out
-held-files-survive a c s p loss out h = passed-bytes-survive (c .job) (c .plan) loss out (held-files-pass a c s p) h
+-- and so survives any one loss, as replay's bytes show, with every list of times and with none
+pub held-files-survive : (a c : Files) → FileCalls a c → FilesPass a → (loss : Loss) (list : Option (List ℕ)) (out : List ℕ)
+    → result (replayFiles (c .job) (c .plan) loss list out .answer) ≡ 0 → FilesSurvive (c .job) (c .plan) loss list out
+held-files-survive a c s p loss list out h = passed-bytes-survive (c .job) (c .plan) loss list out (held-files-pass a c s p) h
 
 -- 'With no commit between, an asked place is always booked': the call of its booking answers 0, where there is room
 pub asked-commits : (a : Files) (task : List ℕ) (x : Place) → askFiles (a .job) (a .plan) task ≡ placed x → (outJob outPlan : List ℕ)

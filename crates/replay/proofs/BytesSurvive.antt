@@ -1,4 +1,4 @@
--- What replay writes of a plan that the judge passes: every task has exactly one finished copy, by its deadline.
+-- What replay writes of a run that survives: every task has exactly one finished copy, by its deadline.
 use Prim.Native.Nat.{ℕ, _+_, _*_, _^_, _≤_, _<_}
 use mathlib.Core.Bool.{not}
 use mathlib.Core.Logic.{inl, inr}
@@ -7,23 +7,17 @@ use mathlib.Core.List.{List, _++_}
 use lib.ListN.{length, getD, List·getD-append}
 use native.Mathlib.Omega.{arith}
 use Rattle.reader.specs.declared.job.Job.{Job}
-use Rattle.reader.specs.declared.plan.Plan.{Plan}
-use Rattle.reader.specs.declared.refusal.Answer.the-variants.{Done}
 use Rattle.reader.specs.Entries.{tasks}
 use Rattle.reader.specs.Number.{numberAt}
-use Rattle.reader.specs.Sound.{Sound, PlanSound}
 use Rattle.reader.proofs.TestLaws.{split}
 use Rattle.rules.specs.declared.Loss.{Loss}
-use Rattle.rules.specs.Rules.{Row, rows}
-use Rattle.rules.specs.Judge.{judge}
-use Rattle.rules.specs.Replay.{State, notStarted, cut, finished, isFinished, stateNumber, TaskRun, replay}
-use Rattle.rules.specs.Survival.{LossOf, Survives}
-use Rattle.rules.proofs.PassedSurvives.{passed-survives}
+use Rattle.rules.specs.Rules.{Row}
+use Rattle.rules.specs.Replay.{State, notStarted, cut, finished, isFinished, stateNumber, TaskRun, finishOf}
+use Rattle.rules.specs.Survival.{Survives}
 use Rattle.replay.specs.States.{outcome}
-use Rattle.replay.specs.Outcomes.{replayed, numbers, replayBytes}
+use Rattle.replay.specs.Outcomes.{numbers, runBytes}
 use Rattle.replay.specs.Survival.{BytesTell, OneFinished, BytesSurvive}
 use Rattle.replay.proofs.StateLaws.{two-finished, two-not}
-use Rattle.replay.proofs.PairLaws.{finish-most}
 use Rattle.replay.proofs.PackLaws.{row-number}
 
 state-small : (s : State) → stateNumber s < 2 ^ 32
@@ -38,22 +32,20 @@ one-of x h =
     (λ e. inr (two-not (x .primary) e, two-finished (x .backup) (rw e at h)))
 
 -- the numbers of each task, where they stand
-module _ (job : Job) (plan : Plan) (loss : Loss) (both : Sound job × PlanSound job plan) where
-  number-there : (j : ℕ) → j < tasks job → (k at : ℕ) → k < 3 → at ≡ 12 * j + 4 * k → getD (numbers (replayed job plan loss j)) k 0 < 2 ^ 32
-      → numberAt (replayBytes job plan loss) at ≡ getD (numbers (replayed job plan loss j)) k 0
-  unfolding replayBytes
+module _ (job : Job) (t : ℕ → Row) (x : ℕ → TaskRun) where
+  number-there : (j : ℕ) → j < tasks job → (k at : ℕ) → k < 3 → at ≡ 12 * j + 4 * k → getD (numbers (outcome (t j) (x j))) k 0 < 2 ^ 32
+      → numberAt (runBytes job t x) at ≡ getD (numbers (outcome (t j) (x j))) k 0
+  unfolding runBytes
   number-there j below k at p e small =
-      ap (λ n. numberAt (replayBytes job plan loss) n) (e ∙ omega arith)
-      ∙ row-number 3 (λ j. numbers (replayed job plan loss j)) (λ j. refl) (tasks job) j k below p small
+      ap (λ n. numberAt (runBytes job t x) n) (e ∙ omega arith)
+      ∙ row-number 3 (λ j. numbers (outcome (t j) (x j))) (λ j. refl) (tasks job) j k below p small
 
-  pub bytes-tell : BytesTell job (rows job plan) (replay job plan loss) (replayBytes job plan loss)
+  pub bytes-tell : ((j : ℕ) → j < tasks job → finishOf (t j) (x j) < 2 ^ 32) → BytesTell job t x (runBytes job t x)
   unfolding outcome
-  bytes-tell = record {
-    primary = λ j p. number-there j p 0 (12 * j) (omega arith) (omega arith) (state-small (replay job plan loss j .primary));
-    backup = λ j p. number-there j p 1 (12 * j + 4) (omega arith) (omega arith) (state-small (replay job plan loss j .backup));
-    finish = λ j p.
-        let most = finish-most job plan both j p (replay job plan loss j) in
-        number-there j p 2 (12 * j + 8) (omega arith) (omega arith) (omega (arith, most));
+  bytes-tell small = record {
+    primary = λ j p. number-there j p 0 (12 * j) (omega arith) (omega arith) (state-small (x j .primary));
+    backup = λ j p. number-there j p 1 (12 * j + 4) (omega arith) (omega arith) (state-small (x j .backup));
+    finish = λ j p. number-there j p 2 (12 * j + 8) (omega arith) (omega arith) (small j p);
   }
 
 -- the numbers at a buffer's front are those of what stands there
@@ -78,9 +70,3 @@ module _ (job : Job) (t : ℕ → Row) (x : ℕ → TaskRun) (s : List ℕ) wher
     finish-least = λ j p. rw (b .finish j p) (h .finish-least j p);
     finish-most = λ j p. rw (b .finish j p) (h .finish-most j p);
   }
-
--- demand 3, as replay's bytes show it
-pub bytes-survive : (job : Job) (plan : Plan) → Sound job → PlanSound job plan → judge job plan ≡ Done
-    → (loss : Loss) → LossOf job loss → BytesSurvive job (replayBytes job plan loss)
-bytes-survive job plan sound plan-sound passed loss of-job =
-    tells-survive job _ _ _ loss (bytes-tell job plan loss (sound, plan-sound)) (passed-survives job plan sound plan-sound passed loss of-job)

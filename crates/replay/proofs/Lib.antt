@@ -5,5 +5,7 @@ pub mod PairLaws
 pub mod ReadyLaws
 pub mod RunLaws
 pub mod PackLaws
+pub mod TimesFileLaws
 pub mod WriteLaws
 pub mod BytesSurvive
+pub mod ListLaws

@@ -12,9 +12,13 @@ use Rattle.reader.specs.Number.{bytes}
 use Rattle.writer.specs.Write.{splice}
 use Rattle.writer.specs.Write.{pack, flat}
 use Rattle.rules.specs.declared.Loss.{Loss}
+use Rattle.rules.specs.declared.Times.{Times}
+use Rattle.rules.specs.Rules.{Row}
+use Rattle.rules.specs.Replay.{TaskRun}
 use Rattle.replay.specs.declared.states.Outcome.{Outcome}
 use Rattle.replay.specs.declared.Outcomes.{Outcomes}
-use Rattle.replay.specs.Outcomes.{replayed, noOutcome, outcomes, numbers, outcomeBytes, replayBytes}
+use Rattle.replay.specs.States.{outcome}
+use Rattle.replay.specs.Outcomes.{noOutcome, outcomes, numbers, outcomeBytes, runBytes, replayBytes}
 use Rattle.reader.proofs.FillLaws.{filled-at}
 use Rattle.writer.proofs.PutLaws.{length-splice, splice-more, splice-behind, splice-front}
 use Rattle.replay.proofs.PackLaws.{length-rows, pack-more}
@@ -71,15 +75,16 @@ module _ (o : Outcomes) (n : ℕ) (out₀ : List ℕ) where
   pub written-done : (j : ℕ) (out : List ℕ) → j ≡ n → Written o n out₀ j out → out ≡ outcomeBytes o n ++ drop (12 * n) out₀
   written-done j out e w = w .is ∙ ap (λ k. splice out₀ 0 (outcomeBytes o k)) e ∙ splice-front out₀ (outcomeBytes o n) (12 * n) (length-outcomes o n)
 
-pub length-replay : (job : Job) (plan : Plan) (loss : Loss) → length (replayBytes job plan loss) ≡ 12 * tasks job
-unfolding replayBytes
-length-replay job plan loss = length-rows 3 (λ j. numbers (replayed job plan loss j)) (λ i. refl) (tasks job) ∙ omega arith
+pub length-run : (job : Job) (t : ℕ → Row) (x : ℕ → TaskRun) → length (runBytes job t x) ≡ 12 * tasks job
+unfolding runBytes
+length-run job t x = length-rows 3 (λ j. numbers (outcome (t j) (x j))) (λ i. refl) (tasks job) ∙ omega arith
 
 -- `replay_into`
-pub replay-written : (job : Job) (plan : Plan) (loss : Loss) (o : Outcomes) (d out : List ℕ) → tasks job ≤ maxTasks → o ≡ outcomes job plan loss
-    → d ≡ outcomeBytes o (tasks job) ++ drop (12 * tasks job) out → d ≡ replayBytes job plan loss ++ drop (12 * tasks job) out
-unfolding outcomeBytes replayBytes outcomes
-replay-written job plan loss o d out most told e =
+pub replay-written : (job : Job) (plan : Plan) (times : Times) (loss : Loss) (o : Outcomes) (d out : List ℕ)
+    → tasks job ≤ maxTasks → o ≡ outcomes job plan times loss → d ≡ outcomeBytes o (tasks job) ++ drop (12 * tasks job) out
+    → d ≡ replayBytes job plan times loss ++ drop (12 * tasks job) out
+unfolding outcomeBytes runBytes outcomes
+replay-written job plan times loss o d out most told e =
     e
     ∙ ap (λ l. pack l ++ drop (12 * tasks job) out)
     (flat-same (tasks job) _ _ (λ j p. ap numbers (filled-at _ maxTasks noOutcome (o .of) (tasks job) j noOutcome (ap (λ o. o .of) told) p most)))

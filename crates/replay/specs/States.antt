@@ -1,6 +1,6 @@
 -- One task on its own: its copies, its run and the numbers of that run.
 use Prim.Native.Nat.{ℕ, _+_, _≤_, _<_}
-use mathlib.Core.Bool.{Bool, false, not}
+use mathlib.Core.Bool.{Bool, false, not, cond}
 use mathlib.Core.Path.{_≡_}
 use lib.Dec.{leb}
 use lib.ListN.{getD}
@@ -12,6 +12,7 @@ use Rattle.reader.specs.Tests.{_and_}
 use Rattle.reader.specs.Limits.{maxNodes, maxDetect, maxTime, maxStart}
 use Rattle.rules.specs.declared.Copy.{Copy}
 use Rattle.rules.specs.declared.Loss.{Loss}
+use Rattle.rules.specs.declared.Took.{Took}
 use Rattle.rules.specs.Copies.{domain}
 use Rattle.rules.specs.Rules.{Row}
 use Rattle.rules.specs.Replay.{TaskRun, stateNumber, isFinished, attempt, finishOf}
@@ -19,24 +20,29 @@ use Rattle.replay.specs.declared.states.Pair.{Pair}
 use Rattle.replay.specs.declared.states.Outcome.{Outcome}
 
 -- numbers within their limits, so that no sum of them wraps
-pub record PairFits (t : Task) (x : Place) (detect : ℕ) : Type 0 where
+pub record PairFits (t : Task) (x : Place) (took : Took) (detect : ℕ) : Type 0 where
   pub primary-node : x .«primary_node» < maxNodes
   pub backup-node : x .«backup_node» < maxNodes
   pub primary-start : x .«primary_start» ≤ maxStart
   pub backup-start : x .«backup_start» ≤ maxStart
   pub primary-run : getD (t .run) (x .«primary_node») 0 ≤ maxTime
-  pub backup-run : getD (t .run) (x .«backup_node») 0 ≤ maxTime
+  pub primary-took : took .primary ≤ maxTime
+  pub backup-took : took .backup ≤ maxTime
   pub detect-most : detect ≤ maxDetect
 
-abbrev pub copyAt : Task → ℕ → ℕ → Copy
-copyAt t n s = record { node = n; start = s; finish = s + getD (t .run) n 0 }
+-- the ticks of a, where they are given, else those of b
+abbrev pub picked : Bool → Took → Took → Took
+picked given a b = record { primary = cond given (a .primary) (b .primary); backup = cond given (a .backup) (b .backup) }
 
--- the copies of a task at its place, on these nodes, and whether rule B holds for them
-abbrev pub pairAt : Task → Place → Node → Node → Pair
-pairAt t x own other =
+abbrev pub copyAt : ℕ → ℕ → ℕ → Copy
+copyAt n s ticks = record { node = n; start = s; finish = s + ticks }
+
+-- the copies of a task at its place, on these nodes, as they end, and whether rule B holds for them as listed
+abbrev pub pairAt : Task → Place → Took → Node → Node → Pair
+pairAt t x took own other =
     record {
-      primary = copyAt t (x .«primary_node») (x .«primary_start»);
-      backup = copyAt t (x .«backup_node») (x .«backup_start»);
+      primary = copyAt (x .«primary_node») (x .«primary_start») (took .primary);
+      backup = copyAt (x .«backup_node») (x .«backup_start») (took .backup);
       «primary_group» = own .group;
       «backup_group» = other .group;
       detected = leb (x .«primary_start» + getD (t .run) (x .«primary_node») 0 + own .detect) (x .«backup_start»);

@@ -2,6 +2,7 @@
 pub mod inputs;
 pub mod progress;
 pub mod states;
+pub mod times_file;
 pub mod write;
 
 use crate::inputs::sent_at;
@@ -17,13 +18,16 @@ use copies::arrival::later;
 use reader::job::Job;
 use reader::plan::Plan;
 use rules::Loss;
+use rules::Times;
 ghost use mathlib.Core.Path.{_≡_};
 ghost use mathlib.Core.List.{_++_};
 ghost use Prim.Native.Nat.{_≤_, _*_};
 ghost use lib.ListN.{length, drop};
 ghost use Rattle.reader.specs.Entries.{tasks};
 ghost use Rattle.reader.specs.Sound.{Sound, PlanSound};
+ghost use Rattle.rules.specs.Times.{TimesSound};
 ghost use Rattle.replay.specs.Outcomes.{outcomes, replayBytes};
+ghost use Rattle.replay.specs.TimesFile.{chosen};
 
 // What replay tells of each task.
 pub struct Outcomes {
@@ -31,10 +35,10 @@ pub struct Outcomes {
 }
 
 // Tasks go by number, and a task's result goes out by its links before the next task. Links rise by from, so each is looked at once.
-// A primary waits for its task's ready time too.
-pub fn replay_plan(job: Job, plan: Plan, loss: Loss) -> Outcomes
-    requires { ⌜ Sound job × PlanSound job plan ⌝ }
-    ensures { λ r. ⌜ r ≡ outcomes job plan loss ⌝ }
+// A primary waits for its task's ready time too. Copies take the times that are given, or the listed ones.
+pub fn replay_plan(job: Job, plan: Plan, given: bool, times: Times, loss: Loss) -> Outcomes
+    requires { ⌜ Sound job × PlanSound job plan × TimesSound job plan (chosen given times job plan) ⌝ }
+    ensures { λ r. ⌜ r ≡ outcomes job plan (chosen given times job plan) loss ⌝ }
 {
     let n = job.task_count as usize;
     let m = job.link_count as usize;
@@ -66,7 +70,8 @@ pub fn replay_plan(job: Job, plan: Plan, loss: Loss) -> Outcomes
         let own = job.nodes[p];
         let b = x.backup_node as usize;
         let other = job.nodes[b];
-        let y = pair_of(task, x, own, other);
+        let took = times.of[j];
+        let y = pair_of(task, x, given, took, own, other);
         let o = settle(y, later(r.primary[j], task.ready), r.backup[j], loss);
         r.of[j] = o;
         r.at[j] = sent_at(o);
@@ -78,11 +83,11 @@ pub fn replay_plan(job: Job, plan: Plan, loss: Loss) -> Outcomes
 }
 
 // Replays, and writes what that tells of each task of the job.
-pub fn replay_into(job: Job, plan: Plan, loss: Loss, out: &mut [u8])
-    requires { ⌜ Sound job × PlanSound job plan × (12 * tasks job ≤ length (now out)) ⌝ }
-    ensures { λ _. ⌜ now (out .exit) ≡ replayBytes job plan loss ++ drop (12 * tasks job) (now (out .entry)) ⌝ }
+pub fn replay_into(job: Job, plan: Plan, given: bool, times: Times, loss: Loss, out: &mut [u8])
+    requires { ⌜ Sound job × PlanSound job plan × TimesSound job plan (chosen given times job plan) × (12 * tasks job ≤ length (now out)) ⌝ }
+    ensures { λ _. ⌜ now (out .exit) ≡ replayBytes job plan (chosen given times job plan) loss ++ drop (12 * tasks job) (now (out .entry)) ⌝ }
 {
-    let o = replay_plan(job, plan, loss);
+    let o = replay_plan(job, plan, given, times, loss);
     let n = job.task_count as usize;
     write_outcomes(o, n, out);
 }

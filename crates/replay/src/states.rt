@@ -1,15 +1,18 @@
 // One task: its two copies, and what they come to.
+use copies::arrival::pick;
 use reader::job::Node;
 use reader::job::Task;
 use reader::plan::Place;
 use rules::Copy;
 use rules::Loss;
+use rules::Took;
 ghost use mathlib.Core.Path.{_≡_};
 ghost use Rattle.reader.specs.declared.job.Job.{Job};
 ghost use Rattle.reader.specs.Tests.{_and_};
 ghost use Rattle.rules.specs.Copies.{domain};
+ghost use Rattle.rules.specs.Times.{listedAt};
 ghost use Rattle.rules.specs.Replay.{stateNumber, attempt};
-ghost use Rattle.replay.specs.States.{PairFits, pairAt, InGroups, pairRow, runFrom, outcome};
+ghost use Rattle.replay.specs.States.{PairFits, picked, pairAt, InGroups, pairRow, runFrom, outcome};
 
 // The copies of a task, the groups of their nodes, and whether the backup starts late enough for the loss of the primary to be known.
 pub struct Pair {
@@ -28,14 +31,17 @@ pub struct Outcome {
     pub finish: u32,
 }
 
-// The copies of a task at its place: `own` is the primary's node, `other` the backup's.
-pub fn pair_of(t: Task, x: Place, own: Node, other: Node) -> Pair
-    requires { ⌜ PairFits t x (own .detect) ⌝ }
-    ensures { λ r. ⌜ r ≡ pairAt t x own other ⌝ }
+// The copies of a task at its place, as they end: after the ticks in `took`, where some are given, else after the listed ones. `own` is the
+// primary's node, `other` the backup's. Whether the loss of the primary is known in time goes by its listed run time.
+pub fn pair_of(t: Task, x: Place, given: bool, took: Took, own: Node, other: Node) -> Pair
+    requires { ⌜ PairFits t x (picked given took (listedAt t x)) (own .detect) ⌝ }
+    ensures { λ r. ⌜ r ≡ pairAt t x (picked given took (listedAt t x)) own other ⌝ }
 {
     let p = x.primary_node as usize;
     let b = x.backup_node as usize;
-    let finish = x.primary_start + t.run[p];
+    let run = t.run[p];
+    let finish = x.primary_start + pick(given, took.primary, run);
+    let listed = x.primary_start + run;
     Pair {
         primary: Copy {
             node: x.primary_node,
@@ -45,11 +51,11 @@ pub fn pair_of(t: Task, x: Place, own: Node, other: Node) -> Pair
         backup: Copy {
             node: x.backup_node,
             start: x.backup_start,
-            finish: x.backup_start + t.run[b],
+            finish: x.backup_start + pick(given, took.backup, t.run[b]),
         },
         primary_group: own.group,
         backup_group: other.group,
-        detected: finish + own.detect <= x.backup_start,
+        detected: listed + own.detect <= x.backup_start,
     }
 }
 

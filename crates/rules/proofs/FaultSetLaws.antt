@@ -74,12 +74,12 @@ module _ (job : Job) (sound : Sound job) where
       every-same (links job) _ _ λ k pk.
       split (eqb (link job k .to) j) (λ e. rw (h (link job k .from) (from-below j k pk e))) (λ e. rw e)
 
-  pub runs-own : (t : ℕ → Row) (loss : Loss) (j : ℕ) → j < tasks job
-      → runsTo job t loss (tasks job) j ≡ runTask job t loss (runsTo job t loss (tasks job)) j
+  pub runs-own : (listed t : ℕ → Row) (loss : Loss) (j : ℕ) → j < tasks job
+      → runsTo job listed t loss (tasks job) j ≡ runTask job listed t loss (runsTo job listed t loss (tasks job)) j
   unfolding runTask runPrimary runBackup
-  runs-own t loss j p = grow-own _ (runTask job t loss) (tasks job) j p own
+  runs-own listed t loss j p = grow-own _ (runTask job listed t loss) (tasks job) j p own
     where
-      own : (f g : ℕ → TaskRun) → ((i : ℕ) → i < j → f i ≡ g i) → runTask job t loss f j ≡ runTask job t loss g j
+      own : (f g : ℕ → TaskRun) → ((i : ℕ) → i < j → f i ≡ g i) → runTask job listed t loss f j ≡ runTask job listed t loss g j
       own f g h = rw (fed-own t j (t j .primary) f g h, fed-own t j (t j .backup) f g h)
 
 -- the copies of a plan's row are those of its place

@@ -43,11 +43,11 @@ arrived-i job loss l r s x c covered p b =
 module _ (job : Job) (sound : Sound job) (t : ℕ → Row) (faults : ℕ → ℕ → Bool) (moment : ℕ) (firm : Firm job t faults moment)
     (loss : Loss) (of-job : LossOf job loss) (late : LossFrom moment loss) where
   abbrev x : ℕ → TaskRun
-  x = runsTo job t loss (tasks job)
+  x = runsTo job t t loss (tasks job)
 
   -- each task's run is made from those before it
-  run-own : (j : ℕ) → j < tasks job → x j ≡ runTask job t loss x j
-  run-own = runs-own job sound t loss
+  run-own : (j : ℕ) → j < tasks job → x j ≡ runTask job t t loss x j
+  run-own = runs-own job sound t t loss
 
   -- link k's result is there at the start of copy c
   abbrev There : ℕ → Copy → Type 0

@@ -4,8 +4,10 @@ use Rattle.reader.specs.declared.plan.Place.{Place}
 use Rattle.rules.specs.declared.Description.{Description}
 use Rattle.rules.specs.Description.{NewSound, Room}
 use Rattle.rules.specs.declared.Loss.{Loss}
+use Rattle.rules.specs.declared.Times.{Times}
 use Rattle.rules.specs.Rules.{rows}
-use Rattle.rules.specs.Replay.{replay}
+use Rattle.rules.specs.Times.{TimesSound, endedRows}
+use Rattle.rules.specs.Replay.{replay, replayTimes}
 use Rattle.rules.specs.Survival.{LossOf, Survives}
 use Rattle.rules.specs.Attempts.{placed}
 use Rattle.rules.specs.Asking.{Booked, longer, ask, commit}
@@ -14,6 +16,7 @@ use Rattle.rules.proofs.LongerLaws.{longer-sound, longer-planned}
 use Rattle.rules.proofs.OneMore.{keeps-rules}
 use Rattle.rules.proofs.AskLaws.{longer-passes, commit-books, asked-sound, asked-own}
 use Rattle.rules.proofs.PassedSurvives.{passed-survives}
+use Rattle.rules.proofs.EndedSurvives.{passed-survives-times}
 
 module _ (b : Booked) (p : Passed b) (d : Description) (x : Place) (l : Let b d x) where
   -- what a commit hands back reads well and passes
@@ -41,6 +44,14 @@ held-passes a c (next {b} s call) p = call-passes b c call (held-passes a b s p)
 pub held-survives : (a c : Booked) → Calls a c → Passed a → (loss : Loss) → LossOf (c .job) loss
     → Survives (c .job) (rows (c .job) (c .plan)) loss (replay (c .job) (c .plan) loss)
 held-survives a c s p = let q = held-passes a c s p in passed-survives (c .job) (c .plan) (q .sound) (q .planned) (q .passed)
+
+-- with every list of times
+pub held-survives-times : (a c : Booked) → Calls a c → Passed a → (times : Times) → TimesSound (c .job) (c .plan) times
+    → (loss : Loss) → LossOf (c .job) loss
+    → Survives (c .job) (endedRows (c .job) (c .plan) times) loss (replayTimes (c .job) (c .plan) times loss)
+held-survives-times a c s p times fits =
+    let q = held-passes a c s p in
+    passed-survives-times (c .job) (c .plan) times fits (q .sound) (q .planned) (q .passed)
 
 -- a commit of what was asked
 agreed-step : (b c : Booked) (d : Description) (x : Place) → NewSound (b .job) d → Room (b .job) d

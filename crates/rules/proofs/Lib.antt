@@ -10,11 +10,13 @@ pub mod DomainLaws
 pub mod LossLaws
 pub mod FirmSurvives
 pub mod PassedSurvives
+pub mod TimesLaws
 pub mod EarliestLaws
 pub mod PlaceTaskLaws
 pub mod AnywhereLaws
 pub mod KeepsLaws
 pub mod PlannedPasses
+pub mod EndedSurvives
 pub mod PlannerGathers
 pub mod SupplyLaws
 pub mod Ready

@@ -40,7 +40,8 @@ module _ (job : Job) (plan : Plan) (j : ℕ) (below : j < tasks job) where
       → ready job j ≤ place plan j .«primary_start»
   unfolding replay runTask runPrimary attempt _and_
   replayed-ready sound loss started =
-      split (ruleReady job j (rows job plan j .primary)) ready-place (λ e. absurd (started (rw (runs-own job sound (rows job plan) loss j below, e))))
+      split (ruleReady job j (rows job plan j .primary)) ready-place
+      (λ e. absurd (started (rw (runs-own job sound (rows job plan) (rows job plan) loss j below, e))))
 
 -- every primary keeps what its version lacks
 pub lacks-ready : (job : Job) → Sound job → job .version < readySince → (j : ℕ) → j < tasks job → (p : Copy) → ruleReady job j p ≡ true

@@ -8,18 +8,19 @@ use native.Mathlib.Omega.{arith}
 use Rattle.reader.specs.declared.refusal.Refusal.the-variants.{CommonLoss, Overlap}
 use Rattle.reader.specs.declared.refusal.Answer.the-variants.{Refused}
 use Rattle.reader.specs.First.{first}
-use Rattle.reader.specs.Samples.{at, _beside_, JWithoutLink}
+use Rattle.reader.specs.Samples.{at, _beside_, J, JWithoutLink}
 use Rattle.rules.specs.declared.Loss.the-variants.{Lost}
 use Rattle.rules.specs.Copies.{overlap}
 use Rattle.rules.specs.Rules.{rows}
 use Rattle.rules.specs.Judge.{firstPair, breach, judge}
 use Rattle.rules.specs.Replay.{replay}
+use Rattle.rules.specs.Times.{endedRows}
 use Rattle.rules.specs.Survival.{backup, Survives}
 use Rattle.rules.specs.Attempts.{placed}
 use Rattle.rules.specs.Planner.{planner}
 use Rattle.rules.specs.Breach.{found, check}
-use Rattle.rules.specs.Samples.{written, wrote}
-use Rattle.rules.specs.WrongTurns.{directFaults, withDirectFaults, chain, chainPlan, freeG, linked, linkedPlan}
+use Rattle.rules.specs.Samples.{written, wrote, writtenOf, timesOf, writtenIn, early, soonPlan}
+use Rattle.rules.specs.WrongTurns.{directFaults, withDirectFaults, chain, chainPlan, freeG, linked, linkedPlan, actualB}
 use Rattle.rules.proofs.Samples.{computed}
 
 -- passed by direct predecessors, refused 13 by the rules; the loss leaves task 2 without a finished copy
@@ -55,3 +56,10 @@ free-sharing = (
 pub earlier-gap : planner JWithoutLink ≡ placed (at 0 0 1 5 beside at 1 0 0 4)
 unfolding computed
 earlier-gap = refl
+
+-- with B by the actual end the backup of task 0 starts in sample 28, though the rack learns of a lost primary at 5, behind its start
+pub b-by-the-end :
+    (writtenOf (endedRows J soonPlan (timesOf early) 0) (actualB J soonPlan (timesOf early) (Lost 0 1) 0) ≡ wrote 1 2 8)
+    × (writtenIn J soonPlan early (Lost 0 1) 0 ≡ wrote 1 0 0)
+unfolding computed
+b-by-the-end = (refl, refl)

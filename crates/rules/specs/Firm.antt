@@ -4,6 +4,7 @@ use mathlib.Core.Bool.{Bool, true, false}
 use mathlib.Core.Path.{_≡_}
 use Rattle.reader.specs.declared.job.Job.{Job}
 use Rattle.reader.specs.Entries.{tasks, links, deadline, link}
+use Rattle.rules.specs.declared.Copy.{Copy}
 use Rattle.rules.specs.declared.Loss.{Loss}
 use Rattle.rules.specs.declared.Loss.the-variants.{NoLoss, Lost}
 use Rattle.rules.specs.Copies.{overlap, inTime, domain}
@@ -48,3 +49,10 @@ pub record Clear (job : Job) (t : ℕ → Row) (faults : ℕ → ℕ → Bool) :
   pub between : (i j : ℕ) (a b : Role) (loss : Loss) → i < j → j < tasks job → LossOf job loss
       → Called a loss (faults i) → Called b loss (faults j) → overlap (copyOf a (t i)) (copyOf b (t j)) ≡ false
   pub alone : (j : ℕ) → j < tasks job → t j .primary .node ≡ t j .backup .node → ⊥
+
+-- (viii) c is the copy d, ended no later than it is listed to
+pub record EndsBy (d c : Copy) : Type 0 where
+  pub node : c .node ≡ d .node
+  pub start : c .start ≡ d .start
+  pub runs : c .start < c .finish
+  pub by : c .finish ≤ d .finish

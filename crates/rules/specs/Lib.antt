@@ -2,6 +2,7 @@ pub mod Tables
 pub mod Copies
 pub mod Rules
 pub mod Judge
+pub mod Times
 pub mod Replay
 pub mod Attempts
 pub mod Planner

@@ -11,9 +11,11 @@ use Rattle.reader.specs.Entries.{tasks, links, link}
 use Rattle.rules.specs.declared.Copy.{Copy}
 use Rattle.rules.specs.declared.Loss.{Loss}
 use Rattle.rules.specs.declared.Loss.the-variants.{NoLoss, Lost}
+use Rattle.rules.specs.declared.Times.{Times}
 use Rattle.rules.specs.Tables.{grow}
 use Rattle.rules.specs.Copies.{inTime, domain}
 use Rattle.rules.specs.Rules.{Row, ruleReady, ruleB, rows}
+use Rattle.rules.specs.Times.{endedRows}
 
 -- what becomes of a copy
 pub data State : Type 0 where
@@ -62,22 +64,27 @@ fed job t before j c =
 unfoldable pub runPrimary : Job → (ℕ → Row) → Loss → (ℕ → TaskRun) → ℕ → State
 runPrimary job t loss before j = attempt job loss (ruleReady job j (t j .primary) and fed job t before j (t j .primary)) (t j .primary)
 
--- 'A backup is called on if its primary did not finish; it then starts if B holds for it and its inputs are there.'
-unfoldable pub runBackup : Job → (ℕ → Row) → Loss → (ℕ → TaskRun) → ℕ → State → State
-runBackup job t loss before j p =
-    attempt job loss (not (isFinished p) and ruleB job (t j) and fed job t before j (t j .backup)) (t j .backup)
+-- 'A backup is called on if its primary did not finish; it then starts if B holds for it and its inputs are there.' (viii) 'Rule B is still tested
+-- there with the listed run time': with the rows `listed`; in t each copy ends when it ends
+unfoldable pub runBackup : Job → (ℕ → Row) → (ℕ → Row) → Loss → (ℕ → TaskRun) → ℕ → State → State
+runBackup job listed t loss before j p =
+    attempt job loss (not (isFinished p) and ruleB job (listed j) and fed job t before j (t j .backup)) (t j .backup)
 
-unfoldable pub runTask : Job → (ℕ → Row) → Loss → (ℕ → TaskRun) → ℕ → TaskRun
-runTask job t loss before j =
+unfoldable pub runTask : Job → (ℕ → Row) → (ℕ → Row) → Loss → (ℕ → TaskRun) → ℕ → TaskRun
+runTask job listed t loss before j =
     let p = runPrimary job t loss before j in
-    record { primary = p; backup = runBackup job t loss before j p }
+    record { primary = p; backup = runBackup job listed t loss before j p }
 
 -- 'Tasks go by number.' The runs of the first n tasks of table t
-abbrev pub runsTo : Job → (ℕ → Row) → Loss → ℕ → ℕ → TaskRun
-runsTo job t loss = grow (record { primary = notStarted; backup = notStarted }) (runTask job t loss)
+abbrev pub runsTo : Job → (ℕ → Row) → (ℕ → Row) → Loss → ℕ → ℕ → TaskRun
+runsTo job listed t loss = grow (record { primary = notStarted; backup = notStarted }) (runTask job listed t loss)
 
 unfoldable pub replay : Job → Plan → Loss → ℕ → TaskRun
-replay job plan loss = runsTo job (rows job plan) loss (tasks job)
+replay job plan loss = runsTo job (rows job plan) (rows job plan) loss (tasks job)
+
+-- (viii) 'Replay takes a list of actual times'
+unfoldable pub replayTimes : Job → Plan → Times → Loss → ℕ → TaskRun
+replayTimes job plan times loss = runsTo job (rows job plan) (endedRows job plan times) loss (tasks job)
 
 -- 'the finish of the finished copy (0 if none)'
 unfoldable pub finishOf : Row → TaskRun → ℕ

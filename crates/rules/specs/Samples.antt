@@ -1,5 +1,5 @@
--- The starred samples of document 01, as one table of questions and answers; sample 8 as request (i) has it. Those of requests (ii), (iv)
--- and (vi) behind them.
+-- The starred samples of document 01, as one table of questions and answers; sample 8 as request (i) has it. Those of requests (ii), (iv),
+-- (vi) and (viii) behind them.
 use Prim.Native.Nat.{ℕ}
 use mathlib.Core.Bool.{Bool, true, false}
 use mathlib.Core.List.{List, [], _∷_}
@@ -16,9 +16,12 @@ use Rattle.reader.specs.Samples.{array, linkOf, at, J, JReady, JSending, JGroup
 use Rattle.reader.specs.Samples.{nodeOf, rackIn, planWith, plan1}
 use Rattle.rules.specs.declared.Loss.{Loss}
 use Rattle.rules.specs.declared.Loss.the-variants.{NoLoss, Lost}
-use Rattle.rules.specs.Rules.{rows, strong}
+use Rattle.rules.specs.declared.Took.{Took}
+use Rattle.rules.specs.declared.Times.{Times}
+use Rattle.rules.specs.Rules.{Row, rows, strong}
 use Rattle.rules.specs.Judge.{judge}
-use Rattle.rules.specs.Replay.{stateNumber, replay, finishOf}
+use Rattle.rules.specs.Times.{noTook, endedRows}
+use Rattle.rules.specs.Replay.{stateNumber, TaskRun, replay, replayTimes, finishOf}
 use Rattle.rules.specs.Attempts.{Attempt, refused, placed}
 use Rattle.rules.specs.Planner.{planner}
 
@@ -27,6 +30,7 @@ pub data Question : Type 0 where
   plans : Job → Question
   judges : Job → Plan → Question
   replays : Job → Plan → Loss → Question
+  replaysTimes : Job → Plan → List Took → Loss → Question
   isStrong : Job → Plan → ℕ → Question
 
 -- 'Per task replay writes three numbers'
@@ -54,15 +58,27 @@ abbrev pub ofAnswer : Answer → Outcome
 ofAnswer Done = passed
 ofAnswer (Refused r) = declined (tell r)
 
+abbrev pub writtenOf : Row → TaskRun → Written
+writtenOf r x = wrote (stateNumber (x .primary)) (stateNumber (x .backup)) (finishOf r x)
+
 abbrev pub written : Job → Plan → Loss → ℕ → Written
-written job plan loss j =
-    let x = replay job plan loss j in
-    wrote (stateNumber (x .primary)) (stateNumber (x .backup)) (finishOf (rows job plan j) x)
+written job plan loss j = writtenOf (rows job plan j) (replay job plan loss j)
+
+-- the copies of each task taking so many ticks
+abbrev pub takes : ℕ → ℕ → Took
+takes p b = record { primary = p; backup = b }
+
+abbrev pub timesOf : List Took → Times
+timesOf l = record { of = array maxTasks noTook l }
+
+abbrev pub writtenIn : Job → Plan → List Took → Loss → ℕ → Written
+writtenIn job plan l loss j = writtenOf (endedRows job plan (timesOf l) j) (replayTimes job plan (timesOf l) loss j)
 
 abbrev pub outcome : Question → Outcome
 outcome (plans job) = ofAttempt (planner job)
 outcome (judges job plan) = ofAnswer (judge job plan)
 outcome (replays job plan loss) = ran (written job plan loss 0) (written job plan loss 1)
+outcome (replaysTimes job plan l loss) = ran (writtenIn job plan l loss 0) (writtenIn job plan l loss 1)
 outcome (isStrong job plan k) =
     let l = link job k in
     is (strong job l (rows job plan (l .from)) (rows job plan (l .to) .primary))
@@ -198,6 +214,38 @@ groupTable =
     ∷ sample 25 (judges (fedByTwo 4) (fedPlan 23)) passed
     ∷ sample 25 (judges (fedByTwo 7) (fedPlan 23)) (declined (told 12 1 2))
     ∷ sample 25 (judges (fedByTwo 7) (fedPlan 24)) passed
+    ∷ []
+
+-- (viii): task 0 takes 2 of 4 ticks, task 1 takes 1 of 3, their backups what is listed
+abbrev pub early : List Took
+early = takes 2 4 ∷ takes 1 3 ∷ []
+
+abbrev pub asListed : List Took
+asListed = takes 4 4 ∷ takes 3 3 ∷ []
+
+-- a backup at 4: soon enough for a primary that ends at 2 and is missed at 3, but not for one that is listed to end at 4
+abbrev pub soonPlan : Plan
+soonPlan = at 0 0 1 4 beside at 0 4 1 9
+
+-- primary 1 on another node at 4, which the result of a primary 0 that ends at 2 reaches, and that of one that ends at 4 does not
+abbrev pub earlyPlan : Plan
+earlyPlan = at 0 0 1 5 beside at 2 4 0 15
+
+-- in 26 samples 2 and 3 with copies that end early, first primaries, then backups; in 27 as listed; in 28 rule B as listed; in 29 a result that leaves
+-- when it ends
+abbrev pub timesTable : List Sample
+timesTable =
+    sample 26 (replaysTimes J plan1 early NoLoss) (ran (wrote 2 0 2) (wrote 2 0 5))
+    ∷ sample 26 (replaysTimes J plan1 early (Lost 0 1)) (ran (wrote 1 2 9) (wrote 0 2 12))
+    ∷ sample 26 (replaysTimes J plan1 early (Lost 0 3)) (ran (wrote 2 0 2) (wrote 0 2 12))
+    ∷ sample 26 (replaysTimes J plan1 early (Lost 0 5)) (ran (wrote 2 0 2) (wrote 2 0 5))
+    ∷ sample 26 (replaysTimes J plan1 (takes 4 1 ∷ takes 3 2 ∷ []) (Lost 0 3)) (ran (wrote 1 2 6) (wrote 0 2 11))
+    ∷ sample 27 (replaysTimes J plan1 asListed (Lost 0 3)) (ran (wrote 1 2 9) (wrote 0 2 12))
+    ∷ sample 27 (replaysTimes J plan1 asListed (Lost 0 5)) (ran (wrote 2 0 4) (wrote 1 2 12))
+    ∷ sample 28 (replaysTimes J soonPlan early NoLoss) (ran (wrote 2 0 2) (wrote 2 0 5))
+    ∷ sample 28 (replaysTimes J soonPlan early (Lost 0 1)) (ran (wrote 1 0 0) (wrote 0 0 0))
+    ∷ sample 29 (replaysTimes J earlyPlan early NoLoss) (ran (wrote 2 0 2) (wrote 2 0 5))
+    ∷ sample 29 (replays J earlyPlan NoLoss) (ran (wrote 2 0 4) (wrote 0 2 18))
     ∷ []
 
 abbrev pub asked : List Sample → List Outcome

@@ -8,10 +8,14 @@ use Rattle.reader.specs.declared.job.Link.{Link}
 use Rattle.reader.specs.declared.plan.Plan.{Plan}
 use Rattle.reader.specs.Tests.{_and_, _or_}
 use Rattle.reader.specs.First.{any}
-use Rattle.reader.specs.Entries.{links, link}
+use Rattle.reader.specs.Entries.{tasks, links, link}
 use Rattle.reader.specs.Samples.{jobOf, taskOf, linkOf, at, planWith}
+use Rattle.rules.specs.declared.Loss.{Loss}
+use Rattle.rules.specs.declared.Times.{Times}
 use Rattle.rules.specs.Copies.{overlap, domain}
 use Rattle.rules.specs.Rules.{Row, strong, ruleGPrimary}
+use Rattle.rules.specs.Times.{endedRows}
+use Rattle.rules.specs.Replay.{TaskRun, runsTo}
 
 -- three tasks of run 4 on three nodes
 abbrev pub threeTasks : List Link → Job
@@ -48,3 +52,7 @@ linked = threeTasks (linkOf 0 1 2 ∷ [])
 
 abbrev pub linkedPlan : Plan
 linkedPlan = planWith (at 0 0 1 5 ∷ at 2 6 1 11 ∷ at 0 4 1 11 ∷ [])
+
+-- (viii) rule B tested with the actual end
+abbrev pub actualB : Job → Plan → Times → Loss → ℕ → TaskRun
+actualB job plan times loss = runsTo job (endedRows job plan times) (endedRows job plan times) loss (tasks job)

@@ -15,9 +15,9 @@ use Rattle.reader.proofs.PackingLaws.{result-done}
 use Rattle.writer.specs.Write.{planBytes, writes}
 use Rattle.rules.specs.declared.Loss.{Loss}
 use Rattle.rules.specs.Planner.{planner}
-use Rattle.replay.specs.Outcomes.{replayBytes}
-use Rattle.replay.proofs.WriteLaws.{length-replay}
-use Rattle.seqopchi.specs.Files.{planIn, planOr, planFileFault, planFile, replayFault, replayFiles, faultBytes, setsFault, setsFiles}
+use Rattle.replay.specs.Outcomes.{runBytes}
+use Rattle.replay.proofs.WriteLaws.{length-run}
+use Rattle.seqopchi.specs.Files.{planIn, planOr, planFileFault, planFile, replayFault, rowsIn, runIn, replayFiles, faultBytes, setsFault, setsFiles}
 use Rattle.seqopchi.proofs.PlannedFiles.{planned-length}
 use Rattle.seqopchi.proofs.SetsLaws.{length-faults}
 
@@ -44,18 +44,18 @@ module _ (job out : List ℕ) where
   unfolding planFile
   plan-keeps-beyond h = done-beyond (planFileFault job out) plan out _ (planned-length job out (result-done _ h)) h
 
-module _ (job plan : List ℕ) (loss : Loss) (out : List ℕ) where
+module _ (job plan : List ℕ) (loss : Loss) (list : Option (List ℕ)) (out : List ℕ) where
   abbrev run : List ℕ
-  run = replayBytes (jobAt job) (planIn job plan) loss
+  run = runBytes (jobAt job) (rowsIn job plan list) (runIn job plan loss list)
 
-  pub replay-refused-keeps : (result (replayFiles job plan loss out .answer) ≡ 0 → ⊥) → replayFiles job plan loss out .buffer ≡ out
+  pub replay-refused-keeps : (result (replayFiles job plan loss list out .answer) ≡ 0 → ⊥) → replayFiles job plan loss list out .buffer ≡ out
   unfolding replayFiles
-  replay-refused-keeps = refused-kept (replayFault job plan loss out) run out
+  replay-refused-keeps = refused-kept (replayFault job plan loss list out) run out
 
   pub replay-keeps-beyond : let need = 12 * tasks (jobAt job) in
-      result (replayFiles job plan loss out .answer) ≡ 0 → drop need (replayFiles job plan loss out .buffer) ≡ drop need out
+      result (replayFiles job plan loss list out .answer) ≡ 0 → drop need (replayFiles job plan loss list out .buffer) ≡ drop need out
   unfolding replayFiles
-  replay-keeps-beyond h = done-beyond (replayFault job plan loss out) run out _ (length-replay (jobAt job) (planIn job plan) loss) h
+  replay-keeps-beyond h = done-beyond (replayFault job plan loss list out) run out _ (length-run (jobAt job) _ _) h
 
 module _ (job plan out : List ℕ) where
   abbrev sets : List ℕ

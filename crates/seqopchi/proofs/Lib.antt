@@ -1,6 +1,7 @@
 pub mod PlannedFiles
 pub mod PlanLaws
 pub mod PassedFiles
+pub mod ListedFiles
 pub mod ReadLaws
 pub mod SetsLaws
 pub mod ToldSets

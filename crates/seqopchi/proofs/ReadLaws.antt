@@ -19,21 +19,27 @@ use Rattle.reader.specs.declared.refusal.Answer.the-variants.{Done, Refused}
 use Rattle.reader.specs.First.{_or-else_, unless, any}
 use Rattle.reader.specs.Entries.{nodes, tasks, noNode}
 use Rattle.reader.specs.Sound.{Sound, PlanSound}
+use Rattle.reader.specs.Reads.{Reads}
 use Rattle.reader.specs.Refusals.{answered, result}
 use Rattle.reader.specs.JobFile.{jobFault, jobAt, readJob, JobDone}
 use Rattle.reader.specs.PlanFile.{readPlan}
 use Rattle.reader.proofs.FirstLaws.{or-else-l, or-else-r}
 use Rattle.reader.proofs.RefusalLaws.{answered-done, answered-refused}
-use Rattle.reader.proofs.Chain.{pass, stop}
+use Rattle.reader.proofs.Chain.{pass, stop, reads-none, reads-some, reads-value}
 use Rattle.reader.proofs.Promise.{none-value, job-sound as sound-job, plan-sound, job-done}
 use Rattle.writer.specs.Write.{roomFault, Written, writes}
 use Rattle.rules.specs.declared.Loss.{Loss}
 use Rattle.rules.specs.declared.Loss.the-variants.{NoLoss, Lost}
 use Rattle.rules.specs.Copies.{domain, hasNode}
+use Rattle.rules.specs.declared.Times.{Times}
 use Rattle.rules.specs.Judge.{judge}
-use Rattle.replay.specs.Outcomes.{replayBytes}
-use Rattle.replay.proofs.WriteLaws.{length-replay}
-use Rattle.seqopchi.specs.Files.{planIn, filesFault, judgeFiles, lossFault, replayFault, replayFiles}
+use Rattle.rules.specs.Times.{TimesSound, endedRows}
+use Rattle.rules.specs.Replay.{replayTimes}
+use Rattle.replay.specs.Outcomes.{runBytes, replayBytes}
+use Rattle.replay.specs.TimesFile.{listFault, listTimes, listRows, listRun}
+use Rattle.replay.proofs.WriteLaws.{length-run}
+use Rattle.replay.proofs.ListLaws.{list-bytes, list-sound}
+use Rattle.seqopchi.specs.Files.{planIn, filesFault, judgeFiles, lossFault, replayFault, rowsIn, runIn, replayFiles}
 
 -- a refusal that is handed on leaves the buffer
 pub refuses : {fault : Option Refusal} {r : Refusal} (s out : List ℕ) {a : Answer} → fault ≡ some r → a ≡ Refused r
@@ -119,9 +125,9 @@ module _ (file plan : List ℕ) {r : Refusal} (a : Answer) (bad : filesFault fil
   unfolding judgeFiles
   judge-stops = q ∙ sym (ap answered (stop _ bad))
 
-  pub replay-stops : (loss : Loss) (out : List ℕ) → replayFiles file plan loss out ≡ record { answer = a; buffer = out }
+  pub replay-stops : (loss : Loss) (list : Option (List ℕ)) (out : List ℕ) → replayFiles file plan loss list out ≡ record { answer = a; buffer = out }
   unfolding replayFiles replayFault
-  replay-stops loss out = refuses _ out (stop _ bad) q
+  replay-stops loss list out = refuses _ out (stop _ bad) q
 
 module _ (file plan : List ℕ) (job : Job) (places : Plan) (d : FilesDone file plan job places) where
   pub both-sound : Sound job × PlanSound job places
@@ -131,29 +137,52 @@ module _ (file plan : List ℕ) (job : Job) (places : Plan) (d : FilesDone file 
   unfolding judgeFiles judge
   judged a e = e ∙ ap₂ (λ j x. judge j x) (d .job-is) (d .plan-is) ∙ sym (ap answered (pass _ (d .fault)))
 
-  module _ (loss : Loss) (out : List ℕ) (a : Answer) (ea : a ≡ answered (lossFault job loss)) where
-    to-loss : replayFault file plan loss out ≡ (lossFault job loss or-else roomFault out (12 * tasks job))
-    unfolding replayFault
-    to-loss = pass _ (d .fault) ∙ ap (λ j. lossFault j loss or-else roomFault out (12 * tasks j)) (sym (d .job-is))
+  -- a list that was read
+  pub times-within : (list : Option (List ℕ)) (b : Answer) (times : Times)
+      → Reads (listFault list job places) b (times ≡ listTimes list job places) → b ≡ Done → TimesSound job places times
+  times-within list b times read fine =
+      rw (reads-value read fine) (list-sound job places (both-sound .0) (both-sound .1) list (reads-none read fine))
 
-    pub no-node : {r : Refusal} → a ≡ Refused r → replayFiles file plan loss out ≡ record { answer = a; buffer = out }
+  module _ (loss : Loss) (list : Option (List ℕ)) (out : List ℕ) (a : Answer) (ea : a ≡ answered (lossFault job loss)) where
+    to-loss : replayFault file plan loss list out ≡ (lossFault job loss or-else listFault list job places or-else roomFault out (12 * tasks job))
+    unfolding replayFault
+    to-loss =
+        pass _ (d .fault)
+        ∙ ap₂ (λ j x. lossFault j loss or-else listFault list j x or-else roomFault out (12 * tasks j)) (sym (d .job-is)) (sym (d .plan-is))
+
+    pub no-node : {r : Refusal} → a ≡ Refused r → replayFiles file plan loss list out ≡ record { answer = a; buffer = out }
     unfolding replayFiles
     no-node {r} q = refuses _ out (to-loss ∙ stop _ (answered-refused _ r .0 (sym ea ∙ q))) q
 
-    module _ (there : a ≡ Done) where
-      to-room : replayFault file plan loss out ≡ roomFault out (12 * tasks job)
-      to-room = to-loss ∙ pass _ (answered-done _ .0 (sym ea ∙ there))
+    module _ (there : a ≡ Done) (b : Answer) (times : Times)
+        (read : Reads (listFault list job places) b (times ≡ listTimes list job places)) where
+      to-list : replayFault file plan loss list out ≡ (listFault list job places or-else roomFault out (12 * tasks job))
+      to-list = to-loss ∙ pass _ (answered-done _ .0 (sym ea ∙ there))
 
-      pub no-room : length out < 12 * tasks job
-          → replayFiles file plan loss out ≡ record { answer = Refused (ShortBuffer (12 * tasks job)); buffer = out }
-      unfolding replayFiles roomFault unless
-      no-room h = rw (to-room, lt-leb (12 * tasks job) (length out) h)
+      pub bad-list : {r : Refusal} → b ≡ Refused r → replayFiles file plan loss list out ≡ record { answer = b; buffer = out }
+      unfolding replayFiles
+      bad-list q = refuses _ out (to-list ∙ stop _ (reads-some read q)) q
 
-      pub replayed : 12 * tasks job ≤ length out → (b : List ℕ)
-          → b ≡ replayBytes job places loss ++ drop (12 * tasks job) out
-          → replayFiles file plan loss out ≡ record { answer = Done; buffer = b }
-      unfolding replayFiles roomFault unless
-      replayed h b e =
-          let fine-room : replayFault file plan loss out ≡ none = to-room ∙ rw (le-leb (12 * tasks job) (length out) h) in
-          let same = ap₂ (λ j x. replayBytes j x loss) (sym (d .job-is)) (sym (d .plan-is)) in
-          rw (fine-room, same, length-replay job places loss) (ap (λ x. record { answer = Done; buffer = x }) (sym e))
+      module _ (fine : b ≡ Done) where
+        to-room : replayFault file plan loss list out ≡ roomFault out (12 * tasks job)
+        to-room = to-list ∙ pass _ (reads-none read fine)
+
+        pub no-room : length out < 12 * tasks job
+            → replayFiles file plan loss list out ≡ record { answer = Refused (ShortBuffer (12 * tasks job)); buffer = out }
+        unfolding replayFiles roomFault unless
+        no-room h = rw (to-room, lt-leb (12 * tasks job) (length out) h)
+
+        -- one code path: without a list the bytes are those of the listed times
+        same-bytes : replayBytes job places times loss ≡ runBytes (jobAt file) (rowsIn file plan list) (runIn file plan loss list)
+        same-bytes =
+            rw (reads-value read fine) (list-bytes job places (both-sound .0) list loss)
+            ∙ ap₂ (λ j x. runBytes j (listRows list j x) (listRun list j x loss)) (d .job-is) (d .plan-is)
+
+        pub replayed : 12 * tasks job ≤ length out → (buffer : List ℕ)
+            → buffer ≡ replayBytes job places times loss ++ drop (12 * tasks job) out
+            → replayFiles file plan loss list out ≡ record { answer = Done; buffer = buffer }
+        unfolding replayFiles roomFault unless
+        replayed h buffer e =
+            let fine-room : replayFault file plan loss list out ≡ none = to-room ∙ rw (le-leb (12 * tasks job) (length out) h) in
+            rw (fine-room, ← same-bytes, length-run job (endedRows job places times) (replayTimes job places times loss))
+            (ap (λ x. record { answer = Done; buffer = x }) (sym e))

@@ -27,6 +27,7 @@ use Rattle.rules.specs.Planner.{planner}
 use Rattle.rules.proofs.FaultSetLaws.{from-low}
 use Rattle.rules.proofs.PlaceTaskLaws.{place-task-refused}
 use Rattle.rules.proofs.PlannerRefusals.{planner-refused}
+use Rattle.replay.proofs.ListLaws.{list-fits}
 use Rattle.seqopchi.specs.Files.{filesFault, judgeFiles, refusalOf, planFileFault, planFile, lossFault, replayFault, replayFiles}
 use Rattle.seqopchi.specs.Files.{setsFault, setsFiles}
 use Rattle.seqopchi.specs.Unpacks.{Unpacks, WordLoss}
@@ -83,22 +84,23 @@ module _ (job : List ℕ) where
     unfolding judgeFiles
     judge-fits = fits-or-else _ _ files-fit (λ e. breach-fits (jobAt job) (files-sound job plan e .0) _)
 
-    pub replay-fits : (loss : Loss) → WordLoss loss → (out : List ℕ) → FaultFits (replayFault job plan loss out)
+    pub replay-fits : (loss : Loss) → WordLoss loss → (list : Option (List ℕ)) (out : List ℕ) → FaultFits (replayFault job plan loss list out)
     unfolding replayFault
-    replay-fits loss w out =
+    replay-fits loss w list out =
         fits-or-else _ _ files-fit (λ e.
+        let sound = files-sound job plan e .0 in
         fits-or-else _ _ (loss-fits (jobAt job) loss w) (λ _.
-        room-fits out _ (omega (arith, files-sound job plan e .0 .tasks-most))))
+        fits-or-else _ _ (list-fits (jobAt job) _ sound list) (λ _. room-fits out _ (omega (arith, sound .tasks-most)))))
 
     -- `seqopchi_judge`
     pub judge-unpacks : (r : Refusal) → judgeFiles job plan ≡ some r → Unpacks (tell r) (result (answered (judgeFiles job plan)))
     judge-unpacks = unpacks _ judge-fits
 
-    -- `seqopchi_replay` with no loss, which needs no more, and `seqopchi_replay_loss`
-    pub replay-unpacks : (loss : Loss) → WordLoss loss → (out : List ℕ) (r : Refusal) → replayFault job plan loss out ≡ some r
-        → Unpacks (tell r) (result (replayFiles job plan loss out .answer))
+    -- `seqopchi_replay` and `seqopchi_replay_times` with no loss, which needs no more, `seqopchi_replay_loss` and `seqopchi_replay_times_loss`
+    pub replay-unpacks : (loss : Loss) → WordLoss loss → (list : Option (List ℕ)) (out : List ℕ) (r : Refusal)
+        → replayFault job plan loss list out ≡ some r → Unpacks (tell r) (result (replayFiles job plan loss list out .answer))
     unfolding replayFiles
-    replay-unpacks loss w out = unpacks _ (replay-fits loss w out)
+    replay-unpacks loss w list out = unpacks _ (replay-fits loss w list out)
 
     sets-fits : (out : List ℕ) → FaultFits (setsFault job plan out)
     unfolding setsFault

@@ -14,12 +14,14 @@ use Rattle.writer.specs.Write.{pack, flat, planBytes, roomFault, Written, write
 use Rattle.rules.specs.declared.Loss.{Loss}
 use Rattle.rules.specs.declared.Loss.the-variants.{NoLoss, Lost}
 use Rattle.rules.specs.Copies.{hasNode}
-use Rattle.rules.specs.Rules.{rows}
+use Rattle.rules.specs.Rules.{Row, rows}
 use Rattle.rules.specs.Gathering.{faultNumber}
 use Rattle.rules.specs.Judge.{breach}
+use Rattle.rules.specs.Replay.{TaskRun}
 use Rattle.rules.specs.Attempts.{Attempt, refused, placed}
 use Rattle.rules.specs.Planner.{planner}
-use Rattle.replay.specs.Outcomes.{replayBytes}
+use Rattle.replay.specs.Outcomes.{runBytes}
+use Rattle.replay.specs.TimesFile.{listFault, listRows, listRun}
 
 -- the plan of a plan file after a job file
 abbrev pub planIn : List ℕ → List ℕ → Plan
@@ -57,12 +59,24 @@ unfoldable pub lossFault : Job → Loss → Option Refusal
 lossFault job NoLoss = none
 lossFault job (Lost q f) = unless (hasNode job q) (NoSuchNode q)
 
--- 'Replay reads job, plan, then 18, then 17 (12 × N bytes).'
-unfoldable pub replayFault : List ℕ → List ℕ → Loss → List ℕ → Option Refusal
-replayFault job plan loss out = filesFault job plan or-else lossFault (jobAt job) loss or-else roomFault out (12 * tasks (jobAt job))
+-- 'Replay reads job, plan, then 18, then 17 (12 × N bytes).' (viii) 'A faulty list gets 1, 4 or 6 by its offset there, after 18 and before 17.'
+unfoldable pub replayFault : List ℕ → List ℕ → Loss → Option (List ℕ) → List ℕ → Option Refusal
+replayFault job plan loss list out =
+    filesFault job plan
+    or-else lossFault (jobAt job) loss
+    or-else listFault list (jobAt job) (planIn job plan)
+    or-else roomFault out (12 * tasks (jobAt job))
 
-unfoldable pub replayFiles : List ℕ → List ℕ → Loss → List ℕ → Written
-replayFiles job plan loss out = writes (replayFault job plan loss out) (replayBytes (jobAt job) (planIn job plan) loss) out
+-- the rows of two files and a list, or none, and their run
+abbrev pub rowsIn : List ℕ → List ℕ → Option (List ℕ) → ℕ → Row
+rowsIn job plan list = listRows list (jobAt job) (planIn job plan)
+
+abbrev pub runIn : List ℕ → List ℕ → Loss → Option (List ℕ) → ℕ → TaskRun
+runIn job plan loss list = listRun list (jobAt job) (planIn job plan) loss
+
+unfoldable pub replayFiles : List ℕ → List ℕ → Loss → Option (List ℕ) → List ℕ → Written
+replayFiles job plan loss list out =
+    writes (replayFault job plan loss list out) (runBytes (jobAt job) (rowsIn job plan list) (runIn job plan loss list)) out
 
 -- (v) the fault sets of a plan, passed or not: 4 bytes a task, bit q for group q
 unfoldable pub faultBytes : Job → Plan → List ℕ

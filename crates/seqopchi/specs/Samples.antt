@@ -3,9 +3,11 @@ use Prim.Native.Nat.{ℕ}
 use mathlib.Core.List.{List, [], _∷_, _++_}
 use mathlib.Core.Option.{Option, none, some}
 use lib.ListN.{length, drop, replicate}
+use Rattle.reader.specs.Entries.{tasks}
 use Rattle.reader.specs.Refusals.{answered, packed, result}
 use Rattle.writer.specs.Write.{pack, jobBytes, planBytes, Written}
-use Rattle.rules.specs.Samples.{Question, plans, judges, replays, isStrong, Outcome, planned, passed, declined, ran, is, Sample}
+use Rattle.rules.specs.Samples.{Question, plans, judges, replays, replaysTimes, isStrong, timesOf, Outcome, planned, passed, declined, ran, is, Sample}
+use Rattle.replay.specs.TimesFile.{timesBytes}
 use Rattle.seqopchi.specs.Files.{judgeFiles, planFile, replayFiles}
 
 -- what a call gives: its 8-byte result, and the buffer
@@ -21,6 +23,7 @@ abbrev pub lent : Question → List ℕ
 lent (plans job) = replicate 42 165
 lent (judges job plan) = []
 lent (replays job plan loss) = replicate 26 165
+lent (replaysTimes job plan l loss) = replicate 26 165
 lent (isStrong job plan k) = []
 
 abbrev pub written : Written → Option Given
@@ -30,7 +33,10 @@ written w = gave (result (w .answer)) (w .buffer)
 abbrev pub called : Question → Option Given
 called (plans job) = written (planFile (jobBytes job) (lent (plans job)))
 called (judges job plan) = gave (result (answered (judgeFiles (jobBytes job) (planBytes plan)))) []
-called (replays job plan loss) = written (replayFiles (jobBytes job) (planBytes plan) loss (lent (replays job plan loss)))
+called (replays job plan loss) = written (replayFiles (jobBytes job) (planBytes plan) loss none (lent (replays job plan loss)))
+called (replaysTimes job plan l loss) =
+    let list = timesBytes (timesOf l) (tasks job) in
+    written (replayFiles (jobBytes job) (planBytes plan) loss (some list) (lent (replaysTimes job plan l loss)))
 called (isStrong job plan k) = none
 
 -- an output, and the bytes behind it as they were

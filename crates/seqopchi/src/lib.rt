@@ -10,16 +10,18 @@ use reader::plan_file::read_plan;
 use reader::refusal::Answer;
 use reader::refusal::Refusal;
 use replay::replay_into;
+use replay::times_file::read_list;
 use rules::Loss;
 use writer::put_number;
 use writer::put_plan;
 ghost use Prim.Native.Nat.{_+_, _*_, _≤_};
 ghost use mathlib.Core.List.{[], _∷_};
+ghost use mathlib.Core.Option.{none, some};
 ghost use mathlib.Core.Path.{_≡_};
 ghost use lib.ListN.{length, getD};
 ghost use Rattle.reader.specs.declared.job.Job.{Job};
 ghost use lib.Dec.{eqb};
-ghost use Rattle.reader.specs.First.{any};
+ghost use Rattle.reader.specs.First.{when, any};
 ghost use Rattle.reader.specs.Entries.{nodes as nodesOf, noNode};
 ghost use Rattle.reader.specs.Limits.{maxNodes, maxTasks};
 ghost use Rattle.reader.specs.Refusals.{answered, result};
@@ -98,8 +100,17 @@ fn lost_group(loss: Loss, nodes: [Node; Job::MAX_NODES], n: usize) -> Answer
     Answer::Refused(Refusal::NoSuchNode(q))
 }
 
-fn replay_files(job: &[u8], plan: &[u8], loss: Loss, out: &mut [u8]) -> Answer
-    ensures { λ r. ⌜ replayFiles (now (job .entry)) (now (plan .entry)) loss (now (out .entry)) ≡ record { answer = r; buffer = now (out .exit) } ⌝ }
+// With the times of the list, where one is given. Where none is, copies take the listed times, and what stands for the list says nothing.
+fn replay_files(
+    job: &[u8],
+    plan: &[u8],
+    loss: Loss,
+    given: bool,
+    list: &[u8],
+    out: &mut [u8],
+) -> Answer
+    ensures { λ r. ⌜ replayFiles (now (job .entry)) (now (plan .entry)) loss (when given (now (list .entry))) (now (out .entry))
+        ≡ record { answer = r; buffer = now (out .exit) } ⌝ }
 {
     let read = read_job(job);
     let bad_job = read.answer;
@@ -117,12 +128,18 @@ fn replay_files(job: &[u8], plan: &[u8], loss: Loss, out: &mut [u8]) -> Answer
     let Answer::Done = no_node else {
         return no_node;
     };
+    let places = placed.plan;
+    let took = read_list(value, places, given, list);
+    let bad_list = took.answer;
+    let Answer::Done = bad_list else {
+        return bad_list;
+    };
     let need = 12 * (value.task_count as usize);
     if out.len() < need {
         return Answer::Refused(Refusal::ShortBuffer(need));
     }
-    let places = placed.plan;
-    replay_into(value, places, loss, out);
+    let times = took.times;
+    replay_into(value, places, given, times, loss, out);
     Answer::Done
 }
 
@@ -182,10 +199,10 @@ pub extern "C" fn seqopchi_plan(job: &[u8], out: &mut [u8]) -> u64
 // Replays two files with no loss: three numbers for each task.
 #[no_mangle]
 pub extern "C" fn seqopchi_replay(job: &[u8], plan: &[u8], out: &mut [u8]) -> u64
-    ensures { λ r. ⌜ (r ≡ result (replayFiles (now (job .entry)) (now (plan .entry)) NoLoss (now (out .entry)) .answer))
-        × (now (out .exit) ≡ replayFiles (now (job .entry)) (now (plan .entry)) NoLoss (now (out .entry)) .buffer) ⌝ }
+    ensures { λ r. ⌜ (r ≡ result (replayFiles (now (job .entry)) (now (plan .entry)) NoLoss none (now (out .entry)) .answer))
+        × (now (out .exit) ≡ replayFiles (now (job .entry)) (now (plan .entry)) NoLoss none (now (out .entry)) .buffer) ⌝ }
 {
-    replay_files(job, plan, Loss::NoLoss, out).result()
+    replay_files(job, plan, Loss::NoLoss, false, &job[..0], out).result()
 }
 
 // The same, with a group lost at a moment: every node of it.
@@ -197,10 +214,42 @@ pub extern "C" fn seqopchi_replay_loss(
     moment: u32,
     out: &mut [u8],
 ) -> u64
-    ensures { λ r. ⌜ (r ≡ result (replayFiles (now (job .entry)) (now (plan .entry)) (Lost group moment) (now (out .entry)) .answer))
-        × (now (out .exit) ≡ replayFiles (now (job .entry)) (now (plan .entry)) (Lost group moment) (now (out .entry)) .buffer) ⌝ }
+    ensures { λ r. ⌜ (r ≡ result (replayFiles (now (job .entry)) (now (plan .entry)) (Lost group moment) none (now (out .entry)) .answer))
+        × (now (out .exit) ≡ replayFiles (now (job .entry)) (now (plan .entry)) (Lost group moment) none (now (out .entry)) .buffer) ⌝ }
 {
-    replay_files(job, plan, Loss::Lost(group, moment), out).result()
+    replay_files(job, plan, Loss::Lost(group, moment), false, &job[..0], out).result()
+}
+
+// Replays two files with no loss, each copy taking the ticks that a list says.
+#[no_mangle]
+pub extern "C" fn seqopchi_replay_times(
+    job: &[u8],
+    plan: &[u8],
+    times: &[u8],
+    out: &mut [u8],
+) -> u64
+    ensures { λ r. ⌜ (r ≡ result (replayFiles (now (job .entry)) (now (plan .entry)) NoLoss (some (now (times .entry))) (now (out .entry)) .answer))
+        × (now (out .exit) ≡ replayFiles (now (job .entry)) (now (plan .entry)) NoLoss (some (now (times .entry))) (now (out .entry)) .buffer) ⌝ }
+{
+    replay_files(job, plan, Loss::NoLoss, true, times, out).result()
+}
+
+// The same, with a group lost at a moment.
+#[no_mangle]
+pub extern "C" fn seqopchi_replay_times_loss(
+    job: &[u8],
+    plan: &[u8],
+    group: u32,
+    moment: u32,
+    times: &[u8],
+    out: &mut [u8],
+) -> u64
+    ensures { λ r. ⌜ (r ≡ result (replayFiles (now (job .entry)) (now (plan .entry)) (Lost group moment) (some (now (times .entry)))
+        (now (out .entry)) .answer))
+        × (now (out .exit) ≡ replayFiles (now (job .entry)) (now (plan .entry)) (Lost group moment) (some (now (times .entry)))
+        (now (out .entry)) .buffer) ⌝ }
+{
+    replay_files(job, plan, Loss::Lost(group, moment), true, times, out).result()
 }
 
 // The fault sets of two files, passed or not: a number for each task, bit q for group q.

@@ -4,7 +4,9 @@ use Rattle.replay.proofs.replay_into.Statement.{statement}
 use Rattle.replay.proofs.replay_into.Tie as tie
 
 returns : tie.Need-returns
-returns c = replay-written _ _ _ _ _ _ (c .before .before .before .before .before .before .before .pre .0 .tasks-most) (c .before .before .before .before .before .replay-plan .ensures) (c .before .before .write-outcomes .ensures)
+returns c =
+    let at-plan = c .before .before .before .before .before in
+    replay-written _ _ _ _ _ _ _ (at-plan .before .before .pre .0 .tasks-most) (at-plan .replay-plan .ensures) (c .before .before .write-outcomes .ensures)
 
 pub replay-into-spec : {M : Type 1} → statement M
 replay-into-spec =
