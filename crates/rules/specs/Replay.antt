@@ -65,7 +65,7 @@ unfoldable pub runPrimary : Job → (ℕ → Row) → Loss → (ℕ → TaskRun)
 runPrimary job t loss before j = attempt job loss (ruleReady job j (t j .primary) and fed job t before j (t j .primary)) (t j .primary)
 
 -- 'A backup is called on if its primary did not finish; it then starts if B holds for it and its inputs are there.' (viii) 'Rule B is still tested
--- there with the listed run time': with the rows `listed`; in t each copy ends when it ends
+-- there with the listed run time': with the rows `listed`, as planned; t has each copy as it ends
 unfoldable pub runBackup : Job → (ℕ → Row) → (ℕ → Row) → Loss → (ℕ → TaskRun) → ℕ → State → State
 runBackup job listed t loss before j p =
     attempt job loss (not (isFinished p) and ruleB job (listed j) and fed job t before j (t j .backup)) (t j .backup)

@@ -59,21 +59,21 @@ pub times-file-samples : calls timesTable ≡ dues timesTable
 unfolding calculated
 times-file-samples = refl
 
--- what replay answers of sample 1's plan, node 1 lost or node 3, with a list of these numbers and a buffer of n bytes
-abbrev answered : ℕ → List ℕ → ℕ → ℕ
-answered q l n = result (replayFiles (jobBytes J) (planBytes plan1) (Lost q 0) (some l) (replicate n 165) .answer)
+-- what replay answers of sample 1's plan with node q lost at 0, this list and a buffer of n bytes
+abbrev replied : ℕ → List ℕ → ℕ → ℕ
+replied q list n = result (replayFiles (jobBytes J) (planBytes plan1) (Lost q 0) (some list) (replicate n 165) .answer)
 
 -- (viii) 'A faulty list gets 1, 4 or 6 by its offset there, after 18 and before 17': no tick, a tick more than is listed, the first fault of two, a
 -- number cut short, a byte too many; 18 before it, and it before 17
 pub list-faults :
-    (answered 1 (pack (4 ∷ 4 ∷ 3 ∷ 0 ∷ [])) 24 ≡ packed (told 4 12 0))
-    × (answered 1 (pack (4 ∷ 5 ∷ 4 ∷ 3 ∷ [])) 24 ≡ packed (told 4 4 0))
-    × (answered 1 (pack (4 ∷ 4 ∷ 3 ∷ [])) 24 ≡ packed (told 1 12 0))
-    × (answered 1 (pack (4 ∷ 4 ∷ 3 ∷ 3 ∷ []) ++ (0 ∷ [])) 24 ≡ packed (told 6 16 0))
-    × (answered 3 [] 24 ≡ packed (told 18 3 0))
-    × (answered 1 [] 0 ≡ packed (told 1 0 0))
-    × (answered 1 (pack (1 ∷ 1 ∷ 1 ∷ 1 ∷ [])) 23 ≡ packed (told 17 24 0))
-    × (answered 1 (pack (1 ∷ 1 ∷ 1 ∷ 1 ∷ [])) 24 ≡ 0)
+    (replied 1 (pack (4 ∷ 4 ∷ 3 ∷ 0 ∷ [])) 24 ≡ packed (told 4 12 0))
+    × (replied 1 (pack (4 ∷ 5 ∷ 4 ∷ 3 ∷ [])) 24 ≡ packed (told 4 4 0))
+    × (replied 1 (pack (4 ∷ 4 ∷ 3 ∷ [])) 24 ≡ packed (told 1 12 0))
+    × (replied 1 (pack (4 ∷ 4 ∷ 3 ∷ 3 ∷ []) ++ (0 ∷ [])) 24 ≡ packed (told 6 16 0))
+    × (replied 3 [] 24 ≡ packed (told 18 3 0))
+    × (replied 1 [] 0 ≡ packed (told 1 0 0))
+    × (replied 1 (pack (1 ∷ 1 ∷ 1 ∷ 1 ∷ [])) 23 ≡ packed (told 17 24 0))
+    × (replied 1 (pack (1 ∷ 1 ∷ 1 ∷ 1 ∷ [])) 24 ≡ 0)
 unfolding calculated
 list-faults = (refl, refl, refl, refl, refl, refl, refl, refl)
 
