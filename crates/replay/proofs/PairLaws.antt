@@ -7,7 +7,7 @@ use Rattle.reader.specs.declared.job.Job.{Job}
 use Rattle.reader.specs.declared.plan.Place.{Place}
 use Rattle.reader.specs.declared.plan.Plan.{Plan}
 use Rattle.reader.specs.Tests.{_and_}
-use Rattle.reader.specs.Limits.{maxTime, maxStart}
+use Rattle.reader.specs.Limits.{maxNodes, maxTime, maxStart}
 use Rattle.reader.specs.Entries.{tasks, node, task, place, detect}
 use Rattle.reader.specs.Sound.{Sound, PlanSound}
 use Rattle.reader.proofs.TestLaws.{split}
@@ -25,8 +25,8 @@ use Rattle.replay.specs.TimesFile.{chosen}
 use Rattle.replay.specs.States.{PairFits, picked, pairAt, InGroups, pairRow, runFed, outcome}
 
 -- a backup whose primary finished is not activated
-pub once-finished : (job : Job) (listed t : ℕ → Row) (loss : Loss) (before : ℕ → TaskRun) (j : ℕ) (x : TaskRun) → x ≡ runTask job listed t loss before j
-    → isFinished (x .primary) ≡ true → isFinished (x .backup) ≡ false
+pub once-finished : (job : Job) (listed t : ℕ → Row) (loss : Loss) (before : ℕ → TaskRun) (j : ℕ) (x : TaskRun)
+    → x ≡ runTask job listed t loss before j → isFinished (x .primary) ≡ true → isFinished (x .backup) ≡ false
 unfolding runTask runBackup attempt _and_
 once-finished job listed t loss before j x e h = rw e (rw (rw e at h))
 
@@ -37,6 +37,13 @@ pub run-pair : (job : Job) (listed t : ℕ → Row) (loss : Loss) (before : ℕ 
     → outcome (pairRow x) (runFed job loss f g x) ≡ outcome (t j) (runTask job listed t loss before j)
 unfolding runTask runPrimary runBackup runFed outcome finishOf
 run-pair job listed t loss before j x f g p b d fp fb = rw (← fp, ← fb, d, p, b)
+
+-- the nodes of a place are among those of a task's run times
+pub on-nodes : (job : Job) (plan : Plan) → Sound job × PlanSound job plan → (j : ℕ) → j < tasks job
+    → (place plan j .«primary_node» < maxNodes) × (place plan j .«backup_node» < maxNodes)
+on-nodes job plan both j p =
+    let most = both .0 .nodes-most in
+    (omega (arith, both .1 .primary-node j p, most), omega (arith, both .1 .backup-node j p, most))
 
 -- the copies of task j
 module _ (job : Job) (plan : Plan) (times : Times) (all : Sound job × PlanSound job plan × TimesSound job plan times) where
@@ -53,9 +60,10 @@ module _ (job : Job) (plan : Plan) (times : Times) (all : Sound job × PlanSound
     fits =
         let p = all .1 .primary-node j below in
         let b = all .1 .backup-node j below in
+        let on = on-nodes job plan (all .0, all .1) j below in
         record {
-          primary-node = omega (arith, p, all .0 .nodes-most);
-          backup-node = omega (arith, b, all .0 .nodes-most);
+          primary-node = on .0;
+          backup-node = on .1;
           primary-start = all .1 .primary-start j below;
           backup-start = all .1 .backup-start j below;
           primary-run = all .0 .run-most j _ below p;

@@ -13,8 +13,8 @@ use Rattle.reader.specs.declared.refusal.Refusal.the-variants.{Value, Tail}
 use Rattle.reader.specs.declared.refusal.Answer.{Answer}
 use Rattle.reader.specs.declared.refusal.Answer.the-variants.{Done, Refused}
 use Rattle.reader.specs.First.{_or-else_}
-use Rattle.reader.specs.Limits.{maxNodes, maxTasks}
-use Rattle.reader.specs.Entries.{tasks, place}
+use Rattle.reader.specs.Limits.{maxTasks}
+use Rattle.reader.specs.Entries.{tasks}
 use Rattle.reader.specs.Sound.{Sound, PlanSound}
 use Rattle.reader.specs.Number.{numberAt}
 use Rattle.reader.specs.Reads.{Reads}
@@ -75,13 +75,6 @@ module _ (s : List ℕ) (job : Job) (plan : Plan) where
       (fits-first _ _ λ j p.
       fits-or-else _ _ (value-fits s (8 * j) 1 _ (omega arith)) (λ _. value-fits s (8 * j + 4) 1 _ (omega arith)))
       (λ _. tail-fits s _ (omega arith))
-
--- `listed`: the nodes of a place are among those of a task's run times
-pub on-nodes : (job : Job) (plan : Plan) → Sound job × PlanSound job plan → (j : ℕ) → j < tasks job
-    → (place plan j .«primary_node» < maxNodes) × (place plan j .«backup_node» < maxNodes)
-on-nodes job plan both j p =
-    let most = both .0 .nodes-most in
-    (omega (arith, both .1 .primary-node j p, most), omega (arith, both .1 .backup-node j p, most))
 
 -- what was read with these limits
 pub read-with : (s : List ℕ) (at : ℕ) {a : Answer} {x most limit : Took} → most ≡ limit → Reads (tookFault s at most) a (x ≡ tookAt s at)

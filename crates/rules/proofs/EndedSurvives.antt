@@ -32,7 +32,8 @@ use Rattle.rules.proofs.PassedSurvives.{passed-firm, passed-clear}
 use Rattle.rules.proofs.PlannedPasses.{planned-sound, planned-passes}
 
 -- what was in time is so if its sender ends sooner
-in-time-sooner : (job : Job) (l : Link) (c d c₁ d₁ : Copy) → EndsBy c c₁ → EndsBy d d₁ → inTime job l c d ≡ true → inTime job l c₁ d₁ ≡ true
+in-time-sooner : (job : Job) (l : Link) (c d c₁ d₁ : Copy) → EndsBy c c₁ → EndsBy d d₁
+    → inTime job l c d ≡ true → inTime job l c₁ d₁ ≡ true
 unfolding inTime delay
 in-time-sooner job l c d c₁ d₁ e f h =
     let same : delay job l c₁ d₁ ≡ delay job l c d = rw (e .node, f .node) in

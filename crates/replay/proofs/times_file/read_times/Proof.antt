@@ -5,7 +5,8 @@ use native.Mathlib.Omega.{arith}
 use borrow.Author.Needs.{needs}
 use Rattle.reader.proofs.Chain.{reads-none, reads-some, reads-value}
 use Rattle.reader.proofs.ReadLoop.{read-start, read-more}
-use Rattle.replay.proofs.TimesFileLaws.{TimesTo, on-nodes, read-with, times-stop, times-tail, times-whole}
+use Rattle.replay.proofs.PairLaws.{on-nodes}
+use Rattle.replay.proofs.TimesFileLaws.{TimesTo, read-with, times-stop, times-tail, times-whole}
 use Rattle.replay.proofs.times_file.read_times.Statement.{statement}
 use Rattle.replay.proofs.times_file.read_times.Tie as tie
 
