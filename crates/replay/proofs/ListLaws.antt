@@ -1,7 +1,7 @@
 -- A list that is given or not: replay goes by its times, or by the listed ones, and without a list that is replay as planned.
-use Prim.Native.Nat.{ℕ, _+_, _≤_, _<_, _^_}
+use Prim.Native.Nat.{ℕ, _<_, _^_}
 use mathlib.Core.Bool.{Bool, true, false}
-use mathlib.Core.Path.{_≡_, refl, sym, ap, ap₂, _∙_, subst}
+use mathlib.Core.Path.{_≡_, refl, subst}
 use mathlib.Core.List.{List}
 use mathlib.Core.Option.{Option, none, some}
 use native.Mathlib.Omega.{arith}
@@ -16,23 +16,20 @@ use Rattle.reader.specs.Reads.{Reads}
 use Rattle.reader.specs.Refusals.{FaultFits}
 use Rattle.reader.proofs.Chain.{finished}
 use Rattle.reader.proofs.FitLaws.{fits-none}
-use Rattle.writer.specs.Write.{pack}
-use Rattle.writer.proofs.SameNumbers.{flat-same}
 use Rattle.rules.specs.declared.Loss.{Loss}
 use Rattle.rules.specs.declared.Times.{Times}
-use Rattle.rules.specs.Rules.{rows}
 use Rattle.rules.specs.Judge.{judge}
 use Rattle.rules.specs.Times.{TimesSound, endedRows}
-use Rattle.rules.specs.Replay.{TaskRun, finishOf, replay, replayTimes}
+use Rattle.rules.specs.Replay.{TaskRun, finishOf, replayTimes}
 use Rattle.rules.specs.Survival.{LossOf, Survives}
 use Rattle.rules.proofs.PassedSurvives.{passed-survives}
 use Rattle.rules.proofs.TimesLaws.{listed-sound, ended-listed, replay-listed}
 use Rattle.rules.proofs.EndedSurvives.{passed-survives-times}
 use Rattle.replay.specs.Survival.{BytesTell, BytesSurvive}
-use Rattle.replay.specs.States.{outcome}
-use Rattle.replay.specs.Outcomes.{numbers, runBytes, replayBytes}
+use Rattle.replay.specs.Outcomes.{runBytes, replayBytes}
 use Rattle.replay.specs.TimesFile.{timesFault, timesAt, listFault, listTimes, chosen, listRows, listRun}
 use Rattle.replay.proofs.PairLaws.{finish-most}
+use Rattle.replay.proofs.WriteLaws.{run-bytes-same}
 use Rattle.replay.proofs.TimesFileLaws.{times-fits, times-sound}
 use Rattle.replay.proofs.BytesSurvive.{bytes-tell, tells-survive}
 
@@ -62,10 +59,7 @@ module _ (job : Job) (plan : Plan) (sound : Sound job) where
 
   pub list-bytes : (list : Option (List ℕ)) (loss : Loss)
       → replayBytes job plan (listTimes list job plan) loss ≡ runBytes job (listRows list job plan) (listRun list job plan loss)
-  unfolding runBytes
-  list-bytes list loss =
-      ap pack (flat-same (tasks job) _ _ λ j p.
-      ap₂ (λ r x. numbers (outcome r (x j))) (list-rows list j p) (list-run list loss))
+  list-bytes list loss = run-bytes-same job _ _ _ _ (list-rows list) (list-run list loss)
 
   pub list-fits : (list : Option (List ℕ)) → FaultFits (listFault list job plan)
   unfolding listFault

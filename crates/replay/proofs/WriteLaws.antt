@@ -1,6 +1,6 @@
 -- Laws of the bytes that replay writes.
 use Prim.Native.Nat.{ℕ, _+_, _*_, _≤_, _<_}
-use mathlib.Core.Path.{_≡_, refl, ap, _∙_}
+use mathlib.Core.Path.{_≡_, refl, ap, ap₂, _∙_}
 use mathlib.Core.List.{List, _++_}
 use lib.ListN.{length, getD, drop}
 use native.Mathlib.Omega.{arith}
@@ -78,6 +78,13 @@ module _ (o : Outcomes) (n : ℕ) (out₀ : List ℕ) where
 pub length-run : (job : Job) (t : ℕ → Row) (x : ℕ → TaskRun) → length (runBytes job t x) ≡ 12 * tasks job
 unfolding runBytes
 length-run job t x = length-rows 3 (λ j. numbers (outcome (t j) (x j))) (λ i. refl) (tasks job) ∙ omega arith
+
+-- the rows of the job's tasks and the run are all that the bytes are made of
+pub run-bytes-same : (job : Job) (t u : ℕ → Row) (x y : ℕ → TaskRun) → ((j : ℕ) → j < tasks job → t j ≡ u j) → x ≡ y
+    → runBytes job t x ≡ runBytes job u y
+unfolding runBytes
+run-bytes-same job t u x y same e =
+    ap pack (flat-same (tasks job) _ _ λ j p. ap₂ (λ r x. numbers (outcome r (x j))) (same j p) e)
 
 -- `replay_into`
 pub replay-written : (job : Job) (plan : Plan) (times : Times) (loss : Loss) (o : Outcomes) (d out : List ℕ)

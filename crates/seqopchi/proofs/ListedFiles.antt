@@ -11,16 +11,15 @@ use Rattle.reader.specs.Entries.{tasks}
 use Rattle.reader.specs.Sound.{Sound, PlanSound}
 use Rattle.reader.specs.JobFile.{jobAt}
 use Rattle.reader.proofs.Chain.{stop}
-use Rattle.writer.specs.Write.{pack, roomFault, writes}
-use Rattle.writer.proofs.SameNumbers.{flat-same}
+use Rattle.writer.specs.Write.{roomFault, writes}
 use Rattle.rules.specs.declared.Loss.{Loss}
 use Rattle.rules.specs.Rules.{rows}
 use Rattle.rules.specs.Times.{listedTimes, TimesSound, endedRow, endedRows}
 use Rattle.rules.proofs.TimesLaws.{listed-sound, ended-listed, replay-as-planned}
-use Rattle.replay.specs.States.{outcome}
-use Rattle.replay.specs.Outcomes.{numbers, runBytes}
+use Rattle.replay.specs.Outcomes.{runBytes}
 use Rattle.replay.specs.TimesFile.{timesAt, timesBytes, listFault, listRows, listRun}
 use Rattle.replay.proofs.TimesFileLaws.{written-fine, written-back}
+use Rattle.replay.proofs.WriteLaws.{run-bytes-same}
 use Rattle.seqopchi.specs.Files.{planIn, filesFault, lossFault, replayFault, replayFiles}
 use Rattle.seqopchi.proofs.ReadLaws.{files-sound, refuses}
 
@@ -50,10 +49,8 @@ module _ (file plan : List ℕ) (loss : Loss) (out : List ℕ) where
 
     same-bytes : runBytes job (listRows (some list) job places) (listRun (some list) job places loss)
         ≡ runBytes job (listRows none job places) (listRun none job places loss)
-    unfolding runBytes listRows listRun
-    same-bytes =
-        ap pack (flat-same (tasks job) _ _ λ j p.
-        ap₂ (λ r x. numbers (outcome r (x j))) (same-rows j p) (replay-as-planned job (both .0) places _ same-rows loss))
+    unfolding listRows listRun
+    same-bytes = run-bytes-same job _ _ _ _ same-rows (replay-as-planned job (both .0) places _ same-rows loss)
 
     same-files : replayFiles file plan loss (some list) out ≡ replayFiles file plan loss none out
     unfolding replayFiles replayFault
