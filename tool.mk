@@ -13,16 +13,17 @@ DEMO_LOSS := 1@16
 tool: build/seqopchi
 
 # Proved and built anew when a source or a proof has changed: 'rt check' proves what
-# the library rests on, two crates at a time. Two objects, so that what one of them calls
-# more than once is still inlined in the other. The copy outlives 'rt ci', which removes target/.
+# the library rests on, two crates at a time. Three objects, so that what one of them calls
+# more than once is still inlined in the others. The copy outlives 'rt ci', which removes target/.
 build/libseqopchi.a: $(shell find crates -type f 2>/dev/null)
 	rt check writer asking replay
 	rt staticlib seqopchi
 	rt staticlib booking
+	rt staticlib trial
 	@mkdir -p build
-	cd build && ar x ../target/staticlib/libseqopchi.a && ar x ../target/staticlib/libbooking.a
+	cd build && for a in seqopchi booking trial; do ar x ../target/staticlib/lib$$a.a; done
 	rm -f $@
-	ar rcs $@ build/seqopchi.o build/booking.o
+	ar rcs $@ build/seqopchi.o build/booking.o build/trial.o
 
 build/seqopchi: $(TOOL_SOURCES) $(TOOL_HEADERS) $(SEQOPCHI_LIB)
 	@mkdir -p build
@@ -85,6 +86,14 @@ charts: build/seqopchi
 	build/seqopchi chart demo/oscilloscope.job demo/passed.plan \
 		--lose $(DEMO_LOSS) --times examples/friday-times.txt \
 		-o examples/friday-times.svg
+	build/seqopchi pack examples/oscilloscope-shared.txt \
+		--job demo/oscilloscope.job -o demo/shared.plan
+	build/seqopchi chart demo/oscilloscope.job demo/shared.plan \
+		--lose 3@10 -o examples/oscilloscope-shared.svg
+	build/seqopchi pack examples/oscilloscope-clash.txt \
+		--job demo/oscilloscope.job -o demo/clash.plan
+	build/seqopchi chart demo/oscilloscope.job demo/clash.plan \
+		--lose 1@3 -o examples/oscilloscope-clash.svg
 	build/seqopchi pack examples/lessons.txt -o demo/lessons.job
 	build/seqopchi plan demo/lessons.job -o demo/lessons.plan
 	build/seqopchi chart demo/lessons.job demo/lessons.plan \

@@ -1,5 +1,5 @@
-/* seqopchi.h: judge, planner and replay of rack plans, the fault sets of their tasks,
- * and the booking of one more task, on byte buffers.
+/* seqopchi.h: judge, trial, planner and replay of rack plans, the fault sets of their
+ * tasks, and the booking of one more task, on byte buffers.
  *
  * A job file lists nodes, tasks and links. A plan file gives each task a
  * primary and a backup copy. Each number in a file is 4 bytes, unsigned, low
@@ -33,7 +33,8 @@
  *
  * RESULTS. Every function returns one 8-byte number for every content of its
  * buffers: 0 for success, otherwise a refusal with its number in the lowest 8
- * bits, its first place in the next 32 and its second place in the top 24. The
+ * bits, its first place in the next 32 and its second place in the top 24. One result
+ * is neither: the no of seqopchi_trial, which has number 0 and first place 1. The
  * first fault in the order given at each function is the one returned. What is
  * read is never written. On a refusal every byte of each output keeps its value;
  * on success every byte behind what is written there keeps its value.
@@ -121,7 +122,7 @@ extern "C" {
 
 /* The number of a refusal, with its word and its places (first / second). */
 enum seqopchi_refusal {
-    SEQOPCHI_DONE = 0,                    /* success; 0 / 0 */
+    SEQOPCHI_DONE = 0,                    /* success; 0 / 0. A trial's no; 1 / 0 */
     SEQOPCHI_REFUSED_SHORT = 1,           /* short; offset / 0 */
     SEQOPCHI_REFUSED_VERSION = 2,         /* version; offset / 0 */
     SEQOPCHI_REFUSED_COUNT = 3,           /* count; offset / 0 */
@@ -144,6 +145,9 @@ enum seqopchi_refusal {
     SEQOPCHI_REFUSED_FULL = 20,           /* full; new task number / 0 */
     SEQOPCHI_REFUSED_STALE = 21           /* stale; task / task */
 };
+
+/* The result of a trial that says no: 256. */
+#define SEQOPCHI_TRIAL_NO ((uint64_t)1 << 8)
 
 /* What became of a copy, as replay writes it. */
 enum seqopchi_outcome {
@@ -181,6 +185,27 @@ enum seqopchi_outcome {
  *                   whose fault sets have no common group; lower / higher task
  */
 uint64_t seqopchi_judge(const uint8_t *job, size_t job_len,
+                        const uint8_t *plan, size_t plan_len);
+
+/* Whether plan outlives each loss in the runs of seqopchi_replay and
+ * seqopchi_replay_loss, so by the listed run times. A primary and a backup may share
+ * time where no run has both started. Nothing is written. In this order:
+ *   1 to 6        the faults of the job
+ *   1 to 4, 6, 7  the faults of the plan
+ *   0             yes: without loss every primary finishes; and with no loss, and with
+ *                 each group that some node of the job has lost at any moment, each
+ *                 task has a copy that is finished at or before its deadline, and no
+ *                 two copies that started, a task's own two included, overlap on one
+ *                 node
+ *   256           no (SEQOPCHI_TRIAL_NO): number 0, first place 1, second place 0
+ * Each refusal is the one that seqopchi_judge gives. Where that passes the plan this
+ * says yes; where this says yes, that passes the plan or refuses it with 14. If no
+ * primary overlaps a backup on the same node, a task's own two included, it says yes
+ * exactly if seqopchi_judge passes the plan. A no is shown by the run without loss, or
+ * by the loss of the group of some primary's node at the tick before that primary's
+ * finish.
+ */
+uint64_t seqopchi_trial(const uint8_t *job, size_t job_len,
                         const uint8_t *plan, size_t plan_len);
 
 /* Plans job, task by task: each copy where it finishes earliest under the

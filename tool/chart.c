@@ -29,7 +29,7 @@ uint32_t outcome(const struct chart *c, const struct copy *copy)
 {
     if (!is_run(c))
         return SEQOPCHI_FINISHED;
-    return number_at(&c->run, 12 * (size_t)copy->task + (copy->backup ? 4 : 0));
+    return copy_outcome(&c->run, copy);
 }
 
 uint32_t end_of(const struct chart *c, const struct copy *copy)

@@ -65,6 +65,13 @@ bool is_sooner(const struct chart *c, const struct copy *copy);
 /* Finds a place for each flag; gives the height that they take together. */
 double place_flags(struct chart *c);
 
+/* How two copies of one node share time: backups alone, a backup with a primary, or, in
+ * a run, both started. */
+enum sharing { APART, BACKUPS_SHARE, PRIMARY_SHARES, CLASH };
+
+bool has_sharing(const struct chart *c, enum sharing what);
+void draw_shared(struct chart *c);
+
 /* Whether the chart has a mark where some task becomes ready. */
 bool has_ready_marks(const struct chart *c);
 /* The mark of the tick at x, over a height from top on. */

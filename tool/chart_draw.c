@@ -41,6 +41,10 @@ static const char ready_style[] =
 static const char open_style[] =
     ".open{fill:none;stroke:#555;stroke-width:1.2}\n";
 
+/* Only where two started copies hold a node at once. */
+static const char clash_style[] =
+    ".clash{fill:#f0a39b}\n";
+
 /* Only where there is a bracket. */
 static const char supply_style[] =
     ".supply{stroke:#444;stroke-width:2;stroke-linejoin:round;fill:none}\n";
@@ -68,6 +72,8 @@ void draw_styles(struct chart *c, double height)
         buffer_add(&c->svg, ready_style, sizeof ready_style - 1);
     if (c->in->timed)
         buffer_add(&c->svg, open_style, sizeof open_style - 1);
+    if (has_sharing(c, CLASH))
+        buffer_add(&c->svg, clash_style, sizeof clash_style - 1);
     if (c->bracket_count > 0)
         buffer_add(&c->svg, supply_style, sizeof supply_style - 1);
     buffer_add(&c->svg, patterns, sizeof patterns - 1);
@@ -130,20 +136,6 @@ void draw_title(struct chart *c)
     buffer_print(&c->svg, "</text>\n<text x=\"16\" y=\"48\">");
     add_subtitle(c);
     buffer_print(&c->svg, ".</text>\n");
-}
-
-/* The band behind the ticks that two backups of this node share. */
-static void draw_shared(struct chart *c, const struct copy *a, const struct copy *b)
-{
-    uint32_t from = a->start > b->start ? a->start : b->start;
-    uint32_t to = a->finish < b->finish ? a->finish : b->finish;
-    double top = c->lane[a->node], bottom = c->lane[a->node + 1];
-
-    if (a->node != b->node || !a->backup || !b->backup || from >= to)
-        return;
-    buffer_print(&c->svg, "<rect class=\"shared\" x=\"%.1f\" y=\"%.1f\" width=\"%.1f\" "
-                 "height=\"%.1f\"/>\n", x_of(c, from), top + 1,
-                 x_of(c, to) - x_of(c, from), bottom - top - 2);
 }
 
 static void draw_node_line(struct chart *c, double x, double y, const char *what,
@@ -211,9 +203,7 @@ void draw_lanes(struct chart *c)
     draw_rule(c, c->lane[0]);
     for (uint32_t node = 0; node < c->nodes; node++)
         draw_lane(c, node);
-    for (size_t i = 0; i < c->count; i++)
-        for (size_t k = i + 1; k < c->count; k++)
-            draw_shared(c, &c->copies[i], &c->copies[k]);
+    draw_shared(c);
     draw_axis(c);
 }
 
@@ -386,6 +376,16 @@ static double draw_copy_entries(struct chart *c, double x)
     return draw_entry(c, x, "idle", "not started");
 }
 
+/* What the bands mean; gives the place of the next entry. */
+static double draw_sharing_entries(struct chart *c, double x)
+{
+    bool clashes = has_sharing(c, CLASH);
+
+    x = draw_entry(c, x, "shared", clashes || has_sharing(c, PRIMARY_SHARES)
+                   ? "shared time" : "time shared by backups");
+    return clashes ? draw_entry(c, x, "clash", "clash") : x;
+}
+
 void draw_legend(struct chart *c)
 {
     double x = c->left;
@@ -399,7 +399,7 @@ void draw_legend(struct chart *c)
     }
     if (c->o->lose)
         x = draw_entry(c, x, "gone", "node lost");
-    x = draw_entry(c, x, "shared", "time shared by backups");
+    x = draw_sharing_entries(c, x);
     buffer_print(&c->svg, "<path class=\"pole\" d=\"M%.1f %.1fv16\"/>\n", x + 2,
                  legend_top(c));
     x = draw_meaning(c, x + 9, "deadline");

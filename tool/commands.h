@@ -2,6 +2,7 @@
 #ifndef TOOL_COMMANDS_H
 #define TOOL_COMMANDS_H
 
+#include "layout.h"
 #include "source.h"
 
 /* What stood on the command line behind the command's name. */
@@ -18,6 +19,7 @@ struct options {
 
 int run_plan(const struct options *o);
 int run_judge(const struct options *o);
+int run_trial(const struct options *o);
 int run_replay(const struct options *o);
 int run_list(const struct options *o);
 int run_show(const struct options *o);
@@ -56,6 +58,13 @@ void free_request(struct request *r);
  * refusal. */
 int replayed(struct file *run, const struct input *in, const struct options *o);
 const char *outcome_word(uint32_t outcome);
+uint32_t copy_outcome(const struct file *run, const struct copy *copy);
+bool is_started(const struct file *run, const struct copy *copy);
+uint32_t task_finish(const struct file *run, uint32_t task); /* 0 if it is not done */
+
+/* The line that says which run it is: the loss, with the nodes that it takes where
+ * groups are said, and whether the copies took their own times. */
+void add_cause(struct buffer *b, const struct input *in, const struct options *o);
 
 /* The line that tells the judge's answer to a readable plan. */
 void add_verdict(struct buffer *b, const struct input *in);

@@ -1,4 +1,5 @@
-/* seqopchi: the command line over judge, planner, replay, fault sets and booking. */
+/* seqopchi: the command line over judge, trial, planner, replay, fault sets and
+ * booking. */
 #include "commands.h"
 
 #include "seqopchi.h"
@@ -8,7 +9,7 @@
 #include <stdio.h>
 #include <string.h>
 
-#define TOOL_VERSION "1.6"
+#define TOOL_VERSION "1.7"
 
 enum {
     OUTPUT = 1, OUTPUT_DUE = 2, LOSS = 4, JOB = 8, TWO_OUTPUTS = 16, PLAN = 32,
@@ -35,6 +36,15 @@ static const struct command commands[] = {
     { "judge", run_judge, 2, 2, OUTPUT, "judge JOB PLAN",
       "judge a plan for its job",
       "Prints 'passed' if the plan keeps every rule.\n" },
+    { "trial", run_trial, 2, 2, OUTPUT, "trial JOB PLAN",
+      "try a plan with every loss at every tick",
+      "Prints 'yes' if without loss every primary finishes, and if with no loss and\n"
+      "with the loss of any supply group at any tick each task is done by its deadline\n"
+      "and no two started copies overlap on one node, by the listed run times. Else\n"
+      "prints 'no', a run that shows it, what goes wrong there, and the commands that\n"
+      "print and draw it; the exit status is then 3. A plan that passes the judge gets\n"
+      "a yes, and so may one that is refused as overlap: a primary and a backup may\n"
+      "share time if no loss has both started.\n" },
     { "replay", run_replay, 2, 2, OUTPUT | LOSS | TIMES,
       "replay JOB PLAN [--lose GROUP@TICK] [--times TIMES]",
       "run a plan, with or without a loss",
@@ -100,7 +110,8 @@ enum { COMMANDS = sizeof commands / sizeof commands[0] };
 static const char closing[] =
     "\nFILES named - are standard input or output. An output file appears whole\n"
     "or not at all. Exit status: 0 success; 1 refused, with the reason on standard\n"
-    "error; 2 wrong usage, or a file that could not be read or written.\n";
+    "error; 2 wrong usage, or a file that could not be read or written; 3 the trial\n"
+    "says no.\n";
 
 static int print(struct buffer *b)
 {

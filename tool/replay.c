@@ -59,6 +59,21 @@ const char *outcome_word(uint32_t outcome)
     }
 }
 
+uint32_t copy_outcome(const struct file *run, const struct copy *copy)
+{
+    return number_at(run, 12 * (size_t)copy->task + (copy->backup ? 4 : 0));
+}
+
+bool is_started(const struct file *run, const struct copy *copy)
+{
+    return copy_outcome(run, copy) != SEQOPCHI_NOT_STARTED;
+}
+
+uint32_t task_finish(const struct file *run, uint32_t task)
+{
+    return number_at(run, 12 * (size_t)task + 8);
+}
+
 /* A column of ticks that a task without a finished copy has none of. */
 static void add_ticks(struct buffer *b, bool finished, uint32_t ticks)
 {
@@ -72,7 +87,7 @@ static void add_ticks(struct buffer *b, bool finished, uint32_t ticks)
 static void add_taken(struct buffer *b, const struct input *in, const struct file *run,
                       uint32_t task)
 {
-    uint32_t finish = number_at(run, 12 * (size_t)task + 8);
+    uint32_t finish = task_finish(run, task);
     bool is_backup = number_at(run, 12 * (size_t)task + 4) == SEQOPCHI_FINISHED;
     struct copy copy = plan_copy(&in->job, &in->plan, task, is_backup);
 
@@ -87,7 +102,7 @@ static void add_run(struct buffer *b, const struct input *in, const struct file 
     buffer_print(b, "task  primary      backup        finish  deadline%s\n",
                  in->timed ? "     took   listed" : "");
     for (uint32_t task = 0; task < tasks; task++) {
-        uint32_t finish = number_at(run, 12 * (size_t)task + 8);
+        uint32_t finish = task_finish(run, task);
 
         buffer_print(b, "%4u  %-11s  %-11s", (unsigned)task,
                      outcome_word(number_at(run, 12 * (size_t)task)),
@@ -100,9 +115,7 @@ static void add_run(struct buffer *b, const struct input *in, const struct file 
     }
 }
 
-/* The first line: which loss, and the nodes that it takes where groups are said; and
- * whether the copies took their own times. */
-static void add_cause(struct buffer *b, const struct input *in, const struct options *o)
+void add_cause(struct buffer *b, const struct input *in, const struct options *o)
 {
     if (!o->lose)
         buffer_print(b, "no loss");

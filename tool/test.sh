@@ -94,6 +94,7 @@ lines() { printf '%s\n' "$@"; }
 . "$home/tool/test_asking.sh"
 . "$home/tool/test_trace.sh"
 . "$home/tool/test_times.sh"
+. "$home/tool/test_trial.sh"
 
 # --- good files -------------------------------------------------------------------
 
@@ -542,7 +543,7 @@ turn=0
 damaged_pair() { # damaged_pair JOB PLAN COUNT
     local words
     for ((i = 0; i < $3; i++)); do
-        case $((turn++ % 13)) in
+        case $((turn++ % 14)) in
         0) words=(judge "$1" "$2") ;;
         1) words=(show "$1" "$2") ;;
         2) words=(plan "$1" -o d.out) ;;
@@ -556,6 +557,7 @@ damaged_pair() { # damaged_pair JOB PLAN COUNT
         10) words=(trace "$1" "$2") ;;
         11) words=(replay "$1" "$2" --times d.times --lose 1@5) ;;
         12) words=(chart "$1" "$2" --times d.times -o d.out) ;;
+        13) words=(trial "$1" "$2") ;;
         esac
         [[ ! -e d.out ]] || rm d.out
         run "${words[@]}"
@@ -566,6 +568,7 @@ damaged_pair() { # damaged_pair JOB PLAN COUNT
 ended_well() {
     read_file err
     [[ $status -eq 0 && -z $content ]] && return
+    [[ $1 == trial && $status -eq 3 && -z $content ]] && return
     [[ $status -eq 1 && $content =~ $sentence && ! -e d.out ]] || return
     [[ $1 == list || ! -s out ]]
 }
@@ -700,8 +703,8 @@ usage_tests() {
     done
     good --help
     good --version
-    check 'version' is out 'seqopchi 1.6, for job files of versions 1 to 4 and plan files of version 1'
-    for command in plan judge replay list show trace pack unpack chart ask commit; do
+    check 'version' is out 'seqopchi 1.7, for job files of versions 1 to 4 and plan files of version 1'
+    for command in plan judge trial replay list show trace pack unpack chart ask commit; do
         check "help lists $command" has <("$tool" --help) "  $command "
         good "$command" --help
         check "usage of $command" has out "Usage: seqopchi $command "
@@ -809,7 +812,8 @@ week_step() {
 
 for group in sample round_trip example job_fault plan_fault rule ready ready_chart ready_file ready_text \
     send send_chart send_file send_text group group_chart group_file group_text order ask commit stale full task_fault task_file task_text \
-    trace trace_file times times_fault times_chart times_text usage ask_usage trace_usage times_usage input output commit_output week demo; do
+    trace trace_file trial trial_chart trial_file times times_fault times_chart times_text \
+    usage ask_usage trace_usage trial_usage times_usage input output commit_output week demo; do
     "${group}_tests"
 done
 ASAN_OPTIONS+=:detect_leaks=0 # half the time; leaks were looked for up to here
@@ -817,6 +821,7 @@ text_damage_tests
 damage_tests
 task_damage_tests
 trace_damage_tests
+trial_damage_tests
 times_damage_tests
 echo "tool: $passed passed, $failed failed"
 [[ $failed -eq 0 ]]

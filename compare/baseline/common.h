@@ -1,5 +1,6 @@
 /* What both baselines share: types, reading, the rules, the judge, writing, and the parts of ask,
-   commit and fault sets that have no other way. Each file that includes this uses all of it. */
+   commit, fault sets and trial that have no other way. Each file that includes this uses all of
+   it. */
 
 #ifndef BASELINE_COMMON_H
 #define BASELINE_COMMON_H
@@ -658,13 +659,35 @@ static uint64_t fault_sets(struct file job_file, struct file plan_file, uint8_t 
     return 0;
 }
 
-/* The C interface of one side, over its own `replay`, `ask` and `commit`; its planner has a
-   function of its own. */
+/* The trial's no (request (ix)): number 0 and first place 1. */
+#define NO (UINT64_C(1) << 8)
+
+/* Job and plan, with no loss so far. */
+static uint64_t start_trial(struct file job_file, struct file plan_file, struct run *run)
+{
+    uint64_t refused = read_job(job_file, &run->job);
+    if (!refused)
+        refused = read_plan(plan_file, &run->job, &run->plan);
+    run->lost = run->moment = 0;
+    return refused;
+}
+
+/* The copy's group is lost at the tick before its finish. */
+static void lose_before_finish(struct run *run, const struct copy *copy)
+{
+    struct loss loss = { 1, run->job.group[copy->node], copy->finish - 1 };
+    run->lost = lost_nodes(&run->job, &loss);
+    run->moment = loss.moment;
+}
+
+/* The C interface of one side, over its own `replay`, `ask`, `commit` and `trial`; its planner has
+   a function of its own. */
 #define EXPORT(side)                                                                              \
     EXPORT_JUDGE_AND_REPLAY(side)                                                                 \
     EXPORT_REPLAY_TIMES(side)                                                                     \
     EXPORT_ASK_AND_COMMIT(side)                                                                   \
-    EXPORT_FAULT_SETS(side)
+    EXPORT_FAULT_SETS(side)                                                                       \
+    EXPORT_TRIAL(side)
 
 #define EXPORT_JUDGE_AND_REPLAY(side)                                                             \
     uint64_t side##_judge(const uint8_t *job, size_t job_length, const uint8_t *plan,             \
@@ -736,6 +759,13 @@ static uint64_t fault_sets(struct file job_file, struct file plan_file, uint8_t 
     {                                                                                             \
         return fault_sets(open_bytes(job, job_length), open_bytes(plan, plan_length), out,        \
                           out_length);                                                            \
+    }
+
+#define EXPORT_TRIAL(side)                                                                        \
+    uint64_t side##_trial(const uint8_t *job, size_t job_length, const uint8_t *plan,             \
+                          size_t plan_length)                                                     \
+    {                                                                                             \
+        return trial(open_bytes(job, job_length), open_bytes(plan, plan_length));                 \
     }
 
 #endif

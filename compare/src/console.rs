@@ -1,11 +1,13 @@
-//! Judge, planner, replay, ask, commit and fault sets on byte buffers, as the console calls them.
+//! Judge, planner, replay, ask, commit, fault sets and trial on byte buffers, as the console calls
+//! them.
 
 use crate::asking;
 use crate::bookings::{read_booking, read_description};
+use crate::every_moment;
 use crate::fault_sets;
 use crate::files::{read_job, read_plan, row_numbers, write_job, write_plan, Job, Plan};
 use crate::planner;
-use crate::refusal::{code_of, Refusal, NO_SUCH_NODE, SHORT_BUFFER};
+use crate::refusal::{code_of, Refusal, NO, NO_SUCH_NODE, SHORT_BUFFER};
 use crate::replay::{self, Loss};
 use crate::rules;
 use crate::times::{listed_times, read_times};
@@ -33,11 +35,13 @@ pub struct Console {
     pub commit: Commit,
     /// Job and plan; bit q is for group q.
     pub fault_sets: fn(&[u8], &[u8], &mut [u8]) -> u64,
+    /// Job and plan; yes is 0.
+    pub trial: fn(&[u8], &[u8]) -> u64,
 }
 
 /// The implementation of this package.
 pub const SECOND: Console =
-    Console { name: "second", judge, plan, replay, replay_times, ask, commit, fault_sets };
+    Console { name: "second", judge, plan, replay, replay_times, ask, commit, fault_sets, trial };
 
 pub fn plan_bytes(tasks: usize) -> usize {
     8 + 16 * tasks
@@ -151,6 +155,19 @@ fn try_fault_sets(job: &[u8], plan: &[u8], out: &mut [u8]) -> Result<(), Refusal
     let bits = sets.iter().map(|set| set.iter().map(|&group| 1 << group).sum());
     put(&bits.flat_map(u32::to_le_bytes).collect::<Vec<u8>>(), out);
     Ok(())
+}
+
+fn trial(job: &[u8], plan: &[u8]) -> u64 {
+    match try_trial(job, plan) {
+        Ok(yes) => u64::from(!yes) * NO,
+        Err(refusal) => refusal.code(),
+    }
+}
+
+fn try_trial(job: &[u8], plan: &[u8]) -> Result<bool, Refusal> {
+    let job = read_job(job)?;
+    let plan = read_plan(&job, plan)?;
+    Ok(every_moment::says_yes(&job, &plan))
 }
 
 fn room_for(needed: usize, out: &[u8]) -> Result<(), Refusal> {

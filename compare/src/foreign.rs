@@ -7,7 +7,8 @@ use crate::replay::Loss;
 macro_rules! c_console {
     (
         $module:ident, $judge:ident, $plan:ident, $replay:ident, $replay_loss:ident,
-        $replay_times:ident, $replay_times_loss:ident, $ask:ident, $commit:ident, $fault_sets:ident
+        $replay_times:ident, $replay_times_loss:ident, $ask:ident, $commit:ident, $fault_sets:ident,
+        $trial:ident
     ) => {
         mod $module {
             use super::{Console, Loss, Places};
@@ -84,6 +85,7 @@ macro_rules! c_console {
                     out: *mut u8,
                     out_len: usize,
                 ) -> u64;
+                fn $trial(job: *const u8, job_len: usize, plan: *const u8, plan_len: usize) -> u64;
             }
 
             pub const CONSOLE: Console = Console {
@@ -95,6 +97,7 @@ macro_rules! c_console {
                 ask,
                 commit,
                 fault_sets,
+                trial,
             };
 
             // Each slice is live and borrowed for the whole call, and the C side keeps none.
@@ -178,6 +181,10 @@ macro_rules! c_console {
                 let (plan, plan_len) = (plan.as_ptr(), plan.len());
                 unsafe { $fault_sets(job, job_len, plan, plan_len, out.as_mut_ptr(), out.len()) }
             }
+
+            fn trial(job: &[u8], plan: &[u8]) -> u64 {
+                unsafe { $trial(job.as_ptr(), job.len(), plan.as_ptr(), plan.len()) }
+            }
         }
     };
 }
@@ -192,7 +199,8 @@ c_console!(
     seqopchi_replay_times_loss,
     seqopchi_ask,
     seqopchi_commit,
-    seqopchi_fault_sets
+    seqopchi_fault_sets,
+    seqopchi_trial
 );
 c_console!(
     plain,
@@ -204,7 +212,8 @@ c_console!(
     plain_replay_times_loss,
     plain_ask,
     plain_commit,
-    plain_fault_sets
+    plain_fault_sets,
+    plain_trial
 );
 c_console!(
     tuned,
@@ -216,7 +225,8 @@ c_console!(
     tuned_replay_times_loss,
     tuned_ask,
     tuned_commit,
-    tuned_fault_sets
+    tuned_fault_sets,
+    tuned_trial
 );
 
 /// The library under test.

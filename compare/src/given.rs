@@ -43,6 +43,10 @@ impl Given {
         Call { function: Function::FaultSets, job: &self.bytes, plan, room }
     }
 
+    pub fn trial<'a>(&'a self, plan: &'a [u8]) -> Call<'a> {
+        Call { function: Function::Trial, job: &self.bytes, plan, room: 0 }
+    }
+
     pub fn ask<'a>(&'a self, plan: &'a [u8], task: &'a [u8]) -> Call<'a> {
         Call { function: Function::Ask(task), job: &self.bytes, plan, room: 0 }
     }

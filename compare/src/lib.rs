@@ -1,4 +1,4 @@
-//! A second implementation of document 01 and of requests (i) to (viii) of document 02, and
+//! A second implementation of document 01 and of requests (i) to (ix) of document 02, and
 //! what compares the proved library with it.
 
 pub mod asked_samples;
@@ -14,8 +14,10 @@ pub mod drawers;
 pub mod earlier;
 pub mod early_ends;
 pub mod entries;
+pub mod every_moment;
 pub mod fault_sets;
 pub mod faulty;
+pub mod few_moments;
 pub mod files;
 pub mod fills;
 pub mod foreign;
@@ -28,8 +30,11 @@ pub mod group_samples;
 pub mod held;
 pub mod jobs;
 pub mod losses;
+pub mod moment_calls;
+pub mod moment_samples;
 pub mod order_of_time;
 pub mod order_samples;
+pub mod patterns;
 pub mod planner;
 pub mod plans;
 pub mod random;
@@ -42,6 +47,8 @@ pub mod sent_samples;
 pub mod sequences;
 pub mod set_calls;
 pub mod set_samples;
+pub mod shares;
+pub mod sharing;
 pub mod sized;
 pub mod stack;
 pub mod survival;

@@ -75,27 +75,54 @@ impl<'a> Draft<'a> {
 
     /// Rule D and what else the primary has to keep.
     pub fn primary_fits(&self, primary: &Copy) -> bool {
-        let mut links = self.job.links_into(self.task());
-        self.primary_free(primary) && links.all(|link| primary_fed(&self.layout, link, primary))
+        self.primary_free(primary) && self.is_primary_fed(primary)
     }
 
     /// The ready time, rule G and the deadline.
     pub fn primary_free(&self, primary: &Copy) -> bool {
+        self.primary_free_beside_backups(primary)
+            && !self.layout.backups.iter().any(|other| overlap(other, primary))
+    }
+
+    /// What the primary has to keep, but that it may share time with backups.
+    pub fn primary_fits_beside_backups(&self, primary: &Copy) -> bool {
+        self.primary_free_beside_backups(primary) && self.is_primary_fed(primary)
+    }
+
+    fn is_primary_fed(&self, primary: &Copy) -> bool {
+        let mut links = self.job.links_into(self.task());
+        links.all(|link| primary_fed(&self.layout, link, primary))
+    }
+
+    fn primary_free_beside_backups(&self, primary: &Copy) -> bool {
         let task = self.task();
         after_ready(self.job, task, primary)
             && primary.finish <= self.job.tasks[task].deadline
             && !self.layout.primaries.iter().any(|other| overlap(other, primary))
-            && !self.layout.backups.iter().any(|other| overlap(other, primary))
     }
 
     /// Rule E and what else the backup has to keep; D was the primary's.
     pub fn backup_fits(&self, backup: &Copy) -> bool {
-        let fed = |link: &Link| backup_fed(&self.layout, &self.fault_sets, link, backup);
-        self.backup_free(backup) && self.job.links_into(self.task()).all(fed)
+        self.backup_free(backup) && self.is_backup_fed(backup)
     }
 
     /// Rules A, B, C, F and G.
     pub fn backup_free(&self, backup: &Copy) -> bool {
+        self.backup_free_beside_primaries(backup)
+            && !self.layout.primaries.iter().any(|other| overlap(other, backup))
+    }
+
+    /// What the backup has to keep, but that it may share time with primaries.
+    pub fn backup_fits_beside_primaries(&self, backup: &Copy) -> bool {
+        self.backup_free_beside_primaries(backup) && self.is_backup_fed(backup)
+    }
+
+    fn is_backup_fed(&self, backup: &Copy) -> bool {
+        let fed = |link: &Link| backup_fed(&self.layout, &self.fault_sets, link, backup);
+        self.job.links_into(self.task()).all(fed)
+    }
+
+    fn backup_free_beside_primaries(&self, backup: &Copy) -> bool {
         let task = self.task();
         let primary = &self.layout.primaries[task];
         let fault_set = &self.fault_sets[task];
@@ -105,7 +132,6 @@ impl<'a> Draft<'a> {
             && after_detection(self.job, primary, backup)
             && backup.finish <= self.job.tasks[task].deadline
             && !fault_set.contains(&backup.group)
-            && !self.layout.primaries.iter().any(|other| overlap(other, backup))
             && !backups.any(|(other, copy)| overlap(copy, backup) && !shares(other))
     }
 

@@ -39,7 +39,12 @@ fn place_next(random: &mut Random, draft: &mut Draft, nodes: [&[usize]; 2], hast
     true
 }
 
-fn some_primary(random: &mut Random, draft: &Draft, nodes: &[usize], haste: u64) -> Option<Copy> {
+pub fn some_primary(
+    random: &mut Random,
+    draft: &Draft,
+    nodes: &[usize],
+    haste: u64,
+) -> Option<Copy> {
     from_random_node(random, nodes, |random, node| {
         let mut starts = draft.primary_starts(node);
         // Where backups have arrived too, links are strong.
@@ -51,7 +56,12 @@ fn some_primary(random: &mut Random, draft: &Draft, nodes: &[usize], haste: u64)
     })
 }
 
-fn some_backup(random: &mut Random, draft: &Draft, nodes: &[usize], haste: u64) -> Option<Copy> {
+pub fn some_backup(
+    random: &mut Random,
+    draft: &Draft,
+    nodes: &[usize],
+    haste: u64,
+) -> Option<Copy> {
     from_random_node(random, nodes, |random, node| {
         let starts = draft.backup_starts(node).into_iter().collect();
         some_start(random, draft, haste, node, starts, &|copy| draft.backup_fits(copy))

@@ -82,6 +82,9 @@ pub fn code_of(answer: Result<(), Refusal>) -> u64 {
     answer.map_or_else(Refusal::code, |()| 0)
 }
 
+/// The trial's no, which is no refusal: number 0 and first place 1 (request (ix)).
+pub const NO: u64 = 1 << 8;
+
 /// The number of an 8-byte result, which may come from a faulty library.
 pub fn number_of(code: u64) -> usize {
     (code & 0xff) as usize
@@ -94,6 +97,9 @@ pub fn places_of(code: u64) -> (u64, u64) {
 
 /// An 8-byte result in words.
 pub fn describe(code: u64) -> String {
+    if code == NO {
+        return "no".into();
+    }
     let word = WORDS.get(number_of(code)).copied().unwrap_or("(no such refusal)");
     let (first, second) = places_of(code);
     format!("{} {word} ({first}, {second})", number_of(code))

@@ -72,7 +72,9 @@ fn try_hasty(
 /// chance, so that the mismatch is met again.
 pub fn pair(trial: &mut Trial, job: &[u8], plan: &[u8]) -> Result<(), Mismatch> {
     let most = plan_bytes(TASKS.1 as usize) + 16;
-    trial.compare(&Call { function: Function::Judge, job, plan, room: 0 })?;
+    for function in [Function::Judge, Function::Trial] {
+        trial.compare(&Call { function, job, plan, room: 0 })?;
+    }
     let lose = |group: u32| Function::Replay(Some(Loss { group, moment: 3 }));
     let replay = Function::Replay(None);
     for room in 0..=most {
@@ -331,7 +333,8 @@ fn try_files(
     let (whole, lossy) = (Function::Replay(None), Function::Replay(loss));
     let times = bytes_of(&vec![1; 2 * (plan.len().saturating_sub(8) / 16)]);
     let timed = [Function::ReplayTimes(None, &times), Function::ReplayTimes(loss, &times)];
-    let functions = [Function::Judge, Function::Plan, whole, lossy, Function::FaultSets];
+    let functions =
+        [Function::Judge, Function::Trial, Function::Plan, whole, lossy, Function::FaultSets];
     let later = job.first_chunk().is_some_and(|&v| u64::from(u32::from_le_bytes(v)) > NEWEST);
     for function in functions.into_iter().chain(timed) {
         let code = trial.compare(&Call { function, job, plan, room })?;

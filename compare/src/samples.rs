@@ -1,10 +1,11 @@
 //! The samples of document 01, starred or not, sample 8 as request (i) of document 02 changes it;
-//! samples for request (ii), and those for requests (iii) to (viii), which have files of their own.
+//! samples for request (ii), and those for requests (iii) to (ix), which have files of their own.
 
 use crate::asked_samples;
 use crate::console::{plan_bytes, replay_bytes, Console};
 use crate::files::{write_job, write_plan, Job, Link, Node, Place, Plan, Row, Task, MAX_TIME};
 use crate::group_samples;
+use crate::moment_samples;
 use crate::order_samples;
 use crate::refusal::{
     code_of, describe, Refusal, COMMON_LOSS, COUNT, EARLY, NO_BACKUP, NO_PRIMARY, OVERLAP,
@@ -48,11 +49,11 @@ pub fn without_link() -> Job {
     Job { links: vec![], ..job() }
 }
 
-fn with_delay(delay: u64) -> Job {
+pub fn with_delay(delay: u64) -> Job {
     Job { links: vec![Link { from: 0, to: 1, delay }], ..job() }
 }
 
-fn with_deadline(deadline: u64) -> Job {
+pub fn with_deadline(deadline: u64) -> Job {
     let mut job = job();
     job.tasks[1].deadline = deadline;
     job
@@ -100,8 +101,11 @@ pub const SPARE: usize = 8;
 
 impl Check<'_> {
     pub fn expect(&mut self, sample: &str, got: u64, expected: Result<(), Refusal>) {
+        self.expect_code(sample, got, code_of(expected));
+    }
+
+    pub fn expect_code(&mut self, sample: &str, got: u64, expected: u64) {
         self.count += 1;
-        let expected = code_of(expected);
         if got != expected {
             let (got, expected) = (describe(got), describe(expected));
             self.faults.push(format!("sample {sample}: answered {got}, expected {expected}"));
@@ -180,6 +184,7 @@ impl Check<'_> {
             (self.console.replay_times)(file, &plan, None, &[], &mut out),
             (self.console.replay_times)(file, &plan, lost(3), &[], &mut out),
             (self.console.fault_sets)(file, &plan, &mut out),
+            (self.console.trial)(file, &plan),
         ];
         for got in results {
             self.expect(sample, got, Err(refusal));
@@ -205,6 +210,7 @@ pub fn run(console: &Console) -> (usize, Vec<String>) {
     group_samples::run(&mut check);
     order_samples::run(&mut check);
     timed_samples::run(&mut check);
+    moment_samples::run(&mut check);
     (check.count, check.faults)
 }
 

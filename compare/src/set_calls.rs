@@ -1,5 +1,5 @@
-//! The judge's answer to a round's plans and their fault sets: the calls, the states between tasks,
-//! and what is counted.
+//! The judge's answer to a round's plans, the trial's, and their fault sets: the calls, the states
+//! between tasks, and what is counted.
 
 use crate::drawers::count_judged;
 use crate::earlier::without_send_times;
@@ -7,6 +7,7 @@ use crate::fault_sets::fault_sets;
 use crate::files::{read_plan, Job};
 use crate::gathering::Gathering;
 use crate::given::{some_room, Given};
+use crate::moment_calls::try_moments;
 use crate::order_of_time;
 use crate::random::Random;
 use crate::refusal::{number_of, EARLY, LATE, PRIMARY_UNFED, SAME_NODE, TOO_SOON};
@@ -31,10 +32,11 @@ pub fn try_rooms(
     Ok(())
 }
 
-/// The judge's answer to a plan, and the plan's sets. Those of the second implementation are
+/// The judge's answer to a plan, the trial's, and the plan's sets. Those of the second implementation are
 /// gathered task by task too, and what request (v) says has to hold after each of them.
 pub fn try_judge(trial: &mut Trial, given: &Given, bytes: &[u8]) -> Result<u64, Mismatch> {
     let judged = trial.compare(&given.judge(bytes))?;
+    try_moments(trial, given, bytes, judged)?;
     if trial.compare(&given.fault_sets(bytes, given.sets_room()))? != 0 {
         return Ok(judged);
     }

@@ -13,7 +13,7 @@ extern "C" {
     fn stack_used(call: extern "C" fn(*mut c_void), argument: *mut c_void) -> usize;
 }
 
-type Used = [(&'static str, usize); 9];
+type Used = [(&'static str, usize); 10];
 
 /// Each function with the bytes of stack that it uses, in the version that takes most.
 pub fn used(console: &Console) -> Used {
@@ -47,6 +47,7 @@ fn used_in(console: &Console, version: u64) -> Used {
         ("ask", measure(|| (console.ask)(held, held_plan, &new.task, &mut places))),
         ("commit", measure(&mut commit)),
         ("fault_sets", measure(|| (console.fault_sets)(job, plan, &mut sets))),
+        ("trial", measure(|| (console.trial)(job, plan))),
     ]
 }
 

@@ -9,7 +9,7 @@ use crate::trial::Function;
 
 /// The columns of results. The last two count again what was asked and committed on a pair that
 /// passes, where the fault, if any, is in the description or the booking.
-const COLUMNS: [&str; 11] = [
+const COLUMNS: [&str; 12] = [
     "judge",
     "plan",
     "replay",
@@ -19,20 +19,22 @@ const COLUMNS: [&str; 11] = [
     "fault_sets",
     "replay_times",
     "times_loss",
+    "trial",
     "held: ask",
     "held: commit",
 ];
-const HELD_ASK: usize = 9;
-const HELD_COMMIT: usize = 10;
+const HELD_ASK: usize = 10;
+const HELD_COMMIT: usize = 11;
 
-/// The refusals that ask, commit, fault_sets and replays with a list can give, and which of the
-/// first two on a pair that passes.
-const WANTED: [(usize, &[usize]); 7] = [
+/// The refusals that ask, commit, fault_sets, replays with a list and trial can give, and which of
+/// the first two on a pair that passes.
+const WANTED: [(usize, &[usize]); 8] = [
     (4, &[1, 2, 3, 4, 5, 6, 7, 8, 9, 10, 11, 12, 13, 14, 15, 16, 19, 20]),
     (5, &[1, 2, 3, 4, 5, 6, 7, 8, 9, 10, 11, 12, 13, 14, 17, 19, 20, 21]),
     (6, &[1, 2, 3, 4, 5, 6, 7, 17]),
     (7, &[1, 2, 3, 4, 5, 6, 7, 17]),
     (8, &[1, 2, 3, 4, 5, 6, 7, 17, 18]),
+    (9, &[1, 2, 3, 4, 5, 6, 7]),
     (HELD_ASK, &[1, 3, 4, 5, 6, 15, 16, 20]),
     (HELD_COMMIT, &[1, 3, 4, 5, 6, 7, 17, 20, 21]),
 ];
@@ -136,6 +138,23 @@ pub struct Tally {
     pub lists_before_room: u64,
     pub missing_before_list: u64,
     pub timed_short: u64,
+    /// Yes and no: of all plans, of those without sharing, of those refused 14 with it.
+    pub tried: [u64; 2],
+    pub tried_unshared: [u64; 2],
+    pub tried_shared: [u64; 2],
+    pub shared_version: [[u64; 2]; NEWEST as usize],
+    pub yes_in_drawers: u64,
+    pub yes_with_ready: u64,
+    pub yes_with_send: u64,
+    pub yes_at_deadline: u64,
+    pub yes_at_every_tick: u64,
+    pub no_beside_starts: u64,
+    pub no_beside_finishes: u64,
+    pub no_by_whole_run: u64,
+    pub no_by_primary: u64,
+    pub no_by_later_node: u64,
+    pub no_by_deadline: u64,
+    pub own_copies: u64,
 }
 
 /// Something counted: how often it was met, in words, and how often a run of the default count has
@@ -158,6 +177,7 @@ impl Tally {
             Function::FaultSets => 6,
             Function::ReplayTimes(None, _) => 7,
             Function::ReplayTimes(Some(_), _) => 8,
+            Function::Trial => 9,
         };
         self.results[column][number_of(code)] += 1;
     }
@@ -172,7 +192,7 @@ impl Tally {
         self.results.iter().map(|column| column[number]).sum()
     }
 
-    /// What ask, commit, fault_sets and replays with a list should have given, in words.
+    /// What ask, commit, fault_sets, replays with a list and trial should have given, in words.
     pub fn not_given(&self) -> impl Iterator<Item = String> + '_ {
         let all =
             WANTED.iter().flat_map(|&(column, numbers)| numbers.iter().map(move |&n| (column, n)));
@@ -204,6 +224,7 @@ impl Tally {
         let counts = counts.chain(self.set_counts()).chain(self.group_counts());
         let counts = counts.chain(self.order_counts()).chain(self.crowd_counts());
         let counts = counts.chain(self.timed_counts()).chain(self.list_counts());
+        let counts = counts.chain(self.trial_counts()).chain(self.moment_counts());
         counts.map(|(met, least, words)| Count { met, words, least })
     }
 
@@ -361,6 +382,53 @@ impl Tally {
             (self.lists_before_room, 15_000, "lists refused before 17"),
             (self.missing_before_list, 12_000, "losses refused 18 before a faulty list"),
             (self.timed_short, 6_000, "good lists refused 17"),
+        ]
+    }
+
+    /// Request (ix): yes and no, beside the judge. Sharing is that of a primary and a backup.
+    fn trial_counts(&self) -> [(u64, u64, &'static str); 19] {
+        let ([yes, no], [alike_yes, alike_no]) = (self.tried, self.tried_unshared);
+        let [shared_yes, shared_no] = self.tried_shared;
+        let [[y1, n1], [y2, n2], [y3, n3], [y4, n4]] = self.shared_version;
+        let unread: u64 = self.results[9][1..].iter().sum();
+        [
+            (yes, 40_000, "trials that say yes"),
+            (no, 80_000, "trials that say no"),
+            (self.yes_at_every_tick, 40_000, "trials that say yes, with every tick tried"),
+            (alike_yes, 40_000, "plans without sharing, passed and yes"),
+            (alike_no, 60_000, "plans without sharing, refused and no"),
+            (shared_yes, 3_000, "plans with sharing refused 14, and yes"),
+            (shared_no, 4_000, "plans with sharing refused 14, and no"),
+            (y1, 400, "such plans of version 1 jobs, yes"),
+            (y2, 400, "such plans of version 2 jobs, yes"),
+            (y3, 300, "such plans of version 3 jobs, yes"),
+            (y4, 2_000, "such plans of version 4 jobs, yes"),
+            (n1, 1_000, "such plans of version 1 jobs, no"),
+            (n2, 900, "such plans of version 2 jobs, no"),
+            (n3, 900, "such plans of version 3 jobs, no"),
+            (n4, 1_300, "such plans of version 4 jobs, no"),
+            (self.yes_in_drawers, 2_000, "such plans of jobs with a drawer, yes"),
+            (self.yes_with_ready, 900, "such plans of jobs with ready times above 0, yes"),
+            (self.yes_with_send, 2_300, "such plans of jobs with send times above 0, yes"),
+            (unread, 35_000, "trials refused as the judge refuses to read"),
+        ]
+    }
+
+    /// Request (ix): where a wrong reading would say otherwise.
+    fn moment_counts(&self) -> [(u64, u64, &'static str); 8] {
+        [
+            (self.no_beside_starts, 250, "trials that say no, not shown by losses at starts"),
+            (self.no_beside_finishes, 18_000, "trials that say no, not shown by those at finishes"),
+            (
+                self.no_by_later_node,
+                2_000,
+                "trials that say no, shown by a group's later node only",
+            ),
+            (self.no_by_whole_run, 1_600, "trials that say no, shown by the run without loss only"),
+            (self.no_by_primary, 5_000, "trials that say no for a primary, each task being done"),
+            (self.no_by_deadline, 3_500, "trials that say no for one tick after a deadline"),
+            (self.yes_at_deadline, 3_500, "trials that say yes with a backup at its deadline"),
+            (self.own_copies, 1_200, "plans with a task's own two copies overlapping"),
         ]
     }
 }

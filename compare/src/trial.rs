@@ -20,6 +20,7 @@ pub enum Function<'a> {
     /// With the booking, and the length of the plan's output buffer.
     Commit(&'a [u8], usize),
     FaultSets,
+    Trial,
 }
 
 impl<'a> Function<'a> {
@@ -95,6 +96,7 @@ impl fmt::Display for Call<'_> {
                 write!(f, "buffer of {plan_room} bytes)")
             }
             Function::FaultSets => write!(f, "fault_sets({job}, {plan}, {room})"),
+            Function::Trial => write!(f, "trial({job}, {plan})"),
         }
     }
 }
@@ -259,5 +261,6 @@ fn make(console: &Console, function: Function, inputs: [&[u8]; 3], outputs: Outp
         Function::Ask(_) => (console.ask)(job, plan, third, places),
         Function::Commit(..) => (console.commit)(job, plan, third, first, second),
         Function::FaultSets => (console.fault_sets)(job, plan, first),
+        Function::Trial => (console.trial)(job, plan),
     }
 }

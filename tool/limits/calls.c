@@ -6,9 +6,9 @@
 #include <string.h>
 
 static const char *const call_names[CALLS] = {
-    "seqopchi_judge", "seqopchi_plan", "seqopchi_replay", "seqopchi_replay_loss",
-    "seqopchi_replay_times", "seqopchi_replay_times_loss", "seqopchi_fault_sets",
-    "seqopchi_ask", "seqopchi_commit"
+    "seqopchi_judge", "seqopchi_trial", "seqopchi_plan", "seqopchi_replay",
+    "seqopchi_replay_loss", "seqopchi_replay_times", "seqopchi_replay_times_loss",
+    "seqopchi_fault_sets", "seqopchi_ask", "seqopchi_commit"
 };
 
 const char *const field_names[FIELDS] = {
@@ -212,6 +212,8 @@ uint64_t result_of(enum call call, size_t out_len)
     switch (call) {
     case JUDGE:
         return seqopchi_judge(job.data, job.length, plan.data, plan.length);
+    case TRIAL:
+        return seqopchi_trial(job.data, job.length, plan.data, plan.length);
     case PLAN:
         return seqopchi_plan(job.data, job.length, out, out_len);
     case REPLAY:

@@ -10,8 +10,8 @@ static const size_t longest[SEQOPCHI_NEWEST_JOB_VERSION + 1] = {
     0, 10576, 10832, 10896, 10960
 };
 
-/* All files read well: judge, ask and commit get to the rules, the others lack
- * room. */
+/* All files read well: judge, ask and commit get to the rules, the trial says no, the
+ * others lack room. */
 static void expect_read(void)
 {
     for (int call = JUDGE; call < CALLS; call++) {
@@ -21,6 +21,8 @@ static void expect_read(void)
         if (call == JUDGE || call == ASK || call == COMMIT)
             check_result(number >= SEQOPCHI_REFUSED_SAME_NODE
                          && r == result_of(JUDGE, 0), call, r, "a rule");
+        else if (call == TRIAL)
+            check_result(r == SEQOPCHI_TRIAL_NO, call, r, "no");
         else
             check_result(number == SEQOPCHI_REFUSED_SHORT_BUFFER, call, r,
                          "short buffer");
@@ -128,6 +130,7 @@ static void check_plan_lengths(uint32_t tasks, const char *plan_macro, size_t pl
     check_output(plan_macro, PLAN, plan_bytes);
     memcpy(plan.data, out, plan_bytes);
     expect(JUDGE, 0, SEQOPCHI_DONE, 0, 0);
+    expect(TRIAL, 0, SEQOPCHI_DONE, 0, 0);
     check_output(replay_macro, REPLAY, replay_bytes);
     check_output(replay_macro, LOSS, replay_bytes);
     check_output(replay_macro, TIMES, replay_bytes);
@@ -285,13 +288,16 @@ static void check_version(void)
     check_losses();
     check_asking();
     check_sets();
+    check_trial();
     check_times();
     if (version >= since[READY])
         check_readiness();
     if (version >= since[SEND])
         check_sending();
-    if (version >= since[GROUP])
+    if (version >= since[GROUP]) {
         check_groups();
+        check_trial_groups();
+    }
 }
 
 int main(void)

@@ -11,7 +11,7 @@
 #define OLDEST_JOB_VERSION 1
 
 enum call {
-    JUDGE, PLAN, REPLAY, LOSS, TIMES, TIMES_LOSS, SETS, ASK, COMMIT, CALLS
+    JUDGE, TRIAL, PLAN, REPLAY, LOSS, TIMES, TIMES_LOSS, SETS, ASK, COMMIT, CALLS
 };
 
 /* The numbers of a job, of a plan, of a description, of a booking's place and of a list
@@ -104,6 +104,11 @@ void check_groups(void);
 
 /* Fault sets: lengths, what is written, and the order of refusals. */
 void check_sets(void);
+
+/* The trial: its answers beside the judge's, and the order of refusals; then groups, in
+ * a version that has them. */
+void check_trial(void);
+void check_trial_groups(void);
 
 /* Lists of times: limits, lengths, the order of refusals, and what they change. */
 void check_times(void);

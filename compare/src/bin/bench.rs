@@ -7,7 +7,7 @@ use std::{env, fs};
 
 use compare::console::{plan_bytes, replay_bytes, Console, Places};
 use compare::foreign::{LIBRARY, PLAIN, TUNED};
-use compare::refusal::{Refusal, SAME_NODE, SHORT};
+use compare::refusal::{Refusal, NO, SAME_NODE, SHORT};
 use compare::sized::{asked, crowded_on, planned, AskedJob, PlannedJob};
 
 const DEFAULT_ROUNDS: usize = 2001;
@@ -48,9 +48,10 @@ enum Work {
     Ask,
     Commit,
     FaultSets,
+    Trial,
 }
 
-const WORKS: [(Work, &str); 10] = [
+const WORKS: [(Work, &str); 11] = [
     (Work::Reading, "reading the job"),
     (Work::Judge, "judge"),
     (Work::Plan, "plan"),
@@ -61,7 +62,11 @@ const WORKS: [(Work, &str); 10] = [
     (Work::Ask, "ask"),
     (Work::Commit, "commit"),
     (Work::FaultSets, "fault_sets"),
+    (Work::Trial, "trial"),
 ];
+
+/// The job for which the library's trial is set beside its replay.
+const LARGEST: &str = "maximum";
 
 /// All that a call may write.
 #[derive(PartialEq)]
@@ -84,16 +89,35 @@ fn main() -> ExitCode {
         return ExitCode::from(2);
     };
     print_head(rounds);
+    let mut largest = Vec::new();
     for case in cases() {
         for (work, name) in WORKS.into_iter().filter(|&(work, _)| (case.is_timed)(work)) {
             if !same_answers(&case, work) {
                 println!("{}, {name}: the sides differ", case.name);
                 return ExitCode::FAILURE;
             }
-            print_row(&case, work, name, &time(&case, work, rounds));
+            let times = time(&case, work, rounds);
+            print_row(&case, work, name, &times);
+            if case.name == LARGEST && matches!(work, Work::Replay | Work::Trial) {
+                let [library, ..] = &times;
+                largest.push((least(library), median(library)));
+            }
         }
     }
+    if let [replay, trial] = largest[..] {
+        let (low, middle) = (trial.0 / replay.0, trial.1 / replay.1);
+        println!("\nThe library on {LARGEST}, trial / replay: {low:.1} / {middle:.1}");
+    }
     ExitCode::SUCCESS
+}
+
+/// In microseconds; the times rise.
+fn least(side: &[f64]) -> f64 {
+    side[0] / 1000.0
+}
+
+fn median(side: &[f64]) -> f64 {
+    side[side.len() / 2] / 1000.0
 }
 
 fn print_head(rounds: usize) {
@@ -117,8 +141,6 @@ fn print_row(case: &Case, work: Work, function: &str, times: &Times) {
     let is_asked = matches!(work, Work::Ask | Work::Commit);
     let job = if is_asked { &case.asked.held } else { &case.sized };
     let PlannedJob { nodes, tasks, links, .. } = job;
-    let least = |side: &Vec<f64>| side[0] / 1000.0;
-    let median = |side: &Vec<f64>| side[side.len() / 2] / 1000.0;
     print!("| {} | {nodes} | {tasks} | {links} | {function} ", case.name);
     for side in times {
         print!("| {:.3} | {:.3} ", least(side), median(side));
@@ -135,7 +157,7 @@ fn cases() -> Vec<Case> {
     let mut cases = vec![
         case("four tasks", 1, 3, 4, 4),
         case("middling", 1, 8, 24, 72),
-        case("maximum", 1, 16, 64, 512),
+        case(LARGEST, 1, 16, 64, 512),
     ];
     // How the cost grows with tasks, and then with links.
     cases.extend([8, 16, 32, 64].map(|tasks| case("by tasks", 1, 8, tasks, 3 * tasks)));
@@ -148,7 +170,7 @@ fn cases() -> Vec<Case> {
     cases.push(case("two nodes", 1, 2, 64, 0));
     cases.push(Case {
         sized: crowded_on(0, 1),
-        is_timed: |work| matches!(work, Work::Judge),
+        is_timed: |work| matches!(work, Work::Judge | Work::Trial),
         ..case("one node each", 1, 2, 64, 0)
     });
     cases.push(Case {
@@ -186,6 +208,7 @@ fn call(console: &Console, case: &Case, work: Work, out: &mut Output) -> u64 {
         Work::Ask => (console.ask)(&held.job, &held.plan, task, places),
         Work::Commit => (console.commit)(&held.job, &held.plan, booking, longer_job, longer_plan),
         Work::FaultSets => (console.fault_sets)(job, plan, bytes),
+        Work::Trial => (console.trial)(job, plan),
     }
 }
 
@@ -205,6 +228,8 @@ fn same_answers(case: &Case, work: Work) -> bool {
     let expected = match work {
         Work::Reading => Refusal::at(SHORT, 0).code(),
         Work::Judge => case.judged,
+        // A plan refused 8 gets no.
+        Work::Trial if case.judged != 0 => NO,
         _ => 0,
     };
     let outputs = SIDES.map(|console| {

@@ -10,7 +10,7 @@ use compare::random::Random;
 use compare::refusal::WORDS;
 use compare::tally::Tally;
 use compare::trial::{Mismatch, Trial};
-use compare::{crowds, entries, fills, rounds, sequences, timed};
+use compare::{crowds, entries, fills, rounds, sequences, shares, timed};
 
 const DEFAULT_COUNT: u64 = 5_000;
 const DEFAULT_SEED: u64 = 1;
@@ -98,10 +98,11 @@ fn try_random(trial: &mut Trial, options: &Options) -> Result<(), Mismatch> {
         "{} against second: {} jobs, seed {}",
         trial.console.name, options.count, options.seed
     );
-    // Three sources, so that the rounds of a seed are the same whatever the sequences draw, and the
-    // sequences whatever the crowds.
+    // Four sources, so that the rounds of a seed are the same whatever the sequences draw, the
+    // sequences whatever the crowds, and the crowds whatever shares time.
     let (mut random, mut other) = (Random::new(options.seed), Random::new(!options.seed));
-    let mut third = Random::new(options.seed ^ 1 << 63);
+    let (mut third, mut fourth) =
+        (Random::new(options.seed ^ 1 << 63), Random::new(options.seed ^ 1 << 62));
     for round in 0..options.count {
         rounds::round(trial, &mut random)?;
         sequences::sequence(trial, &mut other)?;
@@ -116,6 +117,7 @@ fn try_random(trial: &mut Trial, options: &Options) -> Result<(), Mismatch> {
         if round % ROUNDS_A_FULL_CROWD == 0 {
             crowds::crowd_fully(trial, &mut third)?;
         }
+        shares::share(trial, &mut fourth)?;
     }
     Ok(())
 }

@@ -1,7 +1,7 @@
 -- Laws of copies: what overlap says, and how long a delay can be.
 use Prim.Native.Nat.{ℕ, _+_, _≤_, _<_, max, min}
 use mathlib.Core.Bool.{true, cond}
-use mathlib.Core.Path.{_≡_, ap}
+use mathlib.Core.Path.{_≡_, sym, ap}
 use mathlib.Core.Logic.{_↔_}
 use borrow.Author.Tests.{lt-ltb, ltb-true, eqb-true, eq-eqb}
 use native.Mathlib.Omega.{arith}
@@ -10,7 +10,7 @@ use Rattle.reader.specs.declared.job.Job.{Job}
 use Rattle.reader.specs.Limits.{sendSince, maxTime, maxStart}
 use Rattle.reader.specs.Entries.{nodes, links, link}
 use Rattle.reader.specs.Sound.{Sound}
-use Rattle.reader.proofs.TestLaws.{split, and-l, and-r, and-i}
+use Rattle.reader.proofs.TestLaws.{split, and-l, and-r, and-i, same-test}
 use Rattle.rules.specs.declared.Copy.{Copy}
 use Rattle.rules.specs.Copies.{HeldBy, overlap, delay}
 
@@ -27,6 +27,12 @@ overlap-is c d = (
       (eqb-true _ _ (and-l _ _ h), (max (c .start) (d .start), (omega arith, omega arith), (omega arith, omega arith))),
   λ w. overlap-i c d (w .1 .0) (w .0) (w .1 .1) (w .1 .2),
 )
+
+pub overlap-sym : (c d : Copy) → overlap c d ≡ overlap d c
+overlap-sym c d = same-test _ _ (turn c d) (turn d c)
+  where
+    turn : (c d : Copy) → overlap c d ≡ true → overlap d c ≡ true
+    turn c d h = let w = overlap-is c d .0 h in overlap-i d c (w .1 .0) (sym (w .0)) (w .1 .2) (w .1 .1)
 
 -- on nodes of a job, by its link k
 module _ (job : Job) (sound : Sound job) (k : ℕ) (p : k < links job) (c d : Copy) (on : c .node < nodes job) where

@@ -36,7 +36,7 @@ unfolding breach first _or-else_
 breach-first job t = simp or-else-join
 
 -- what holds of each of 0 to 7 holds below 8
-eight : (P : ℕ → Type 0) → P 0 → P 1 → P 2 → P 3 → P 4 → P 5 → P 6 → P 7 → (n : ℕ) → n < 8 → P n
+pub eight : (P : ℕ → Type 0) → P 0 → P 1 → P 2 → P 3 → P 4 → P 5 → P 6 → P 7 → (n : ℕ) → n < 8 → P n
 eight P a b c d e f g h zero p = a
 eight P a b c d e f g h (suc zero) p = b
 eight P a b c d e f g h (suc (suc zero)) p = c

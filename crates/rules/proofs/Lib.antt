@@ -17,6 +17,12 @@ pub mod AnywhereLaws
 pub mod KeepsLaws
 pub mod PlannedPasses
 pub mod EndedSurvives
+pub mod RunLaws
+pub mod MomentLaws
+pub mod GoodKeeps
+pub mod TrialMoments
+pub mod TrialLaws
+pub mod TrialAgrees
 pub mod PlannerGathers
 pub mod SupplyLaws
 pub mod Ready
@@ -26,6 +32,7 @@ pub mod WrongTurns
 pub mod WrongOrders
 pub mod Waits
 pub mod Instance
+pub mod TrialSamples
 pub mod PairOrder
 pub mod NodeLaws
 pub mod LinkSets

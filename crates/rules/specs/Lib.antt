@@ -14,9 +14,12 @@ pub mod Survival
 pub mod Paths
 pub mod Gathering
 pub mod Breach
+pub mod Trial
 pub mod Choice
 pub mod Firm
 pub mod Samples
+pub mod TrialSamples
+pub mod WrongTrials
 pub mod WrongTurns
 pub mod WrongOrders
 pub mod Waits

@@ -45,16 +45,19 @@ heldUntil loss c finished = c .finish
 abbrev pub Holds : Loss → Copy → State → ℕ → Type 0
 Holds loss c s tick = (c .start ≤ tick) × (tick < heldUntil loss c s)
 
+-- two started copies that hold one node at one tick are one copy: of the run x of the rows t under a loss
+abbrev pub Apart : Job → (ℕ → Row) → Loss → (ℕ → TaskRun) → Type 0
+Apart job t loss x = (i j : ℕ) (a b : Role) → i < tasks job → j < tasks job → copyOf a (t i) .node ≡ copyOf b (t j) .node
+    → (tick : ℕ) → Holds loss (copyOf a (t i)) (stateOf a (x i)) tick → Holds loss (copyOf b (t j)) (stateOf b (x j)) tick
+    → (i ≡ j) × (a ≡ b)
+
 -- the run x of the rows t under a loss
 pub record Survives (job : Job) (t : ℕ → Row) (loss : Loss) (x : ℕ → TaskRun) : Type 0 where
   -- exactly one copy of each task is finished, and its finish is from 1 to the deadline
   pub one-finished : (j : ℕ) → j < tasks job → isFinished (x j .backup) ≡ not (isFinished (x j .primary))
   pub finish-least : (j : ℕ) → j < tasks job → 1 ≤ finishOf (t j) (x j)
   pub finish-most : (j : ℕ) → j < tasks job → finishOf (t j) (x j) ≤ deadline job j
-  -- two started copies that hold one node at one tick are one copy
-  pub apart : (i j : ℕ) (a b : Role) → i < tasks job → j < tasks job → copyOf a (t i) .node ≡ copyOf b (t j) .node
-      → (tick : ℕ) → Holds loss (copyOf a (t i)) (stateOf a (x i)) tick → Holds loss (copyOf b (t j)) (stateOf b (x j)) tick
-      → (i ≡ j) × (a ≡ b)
+  pub apart : Apart job t loss x
   -- a backup that is called on lacks no input
   pub backup-fed : (j : ℕ) → j < tasks job → isFinished (x j .primary) ≡ false
       → (k : ℕ) → k < links job → link job k .to ≡ j
