@@ -28,7 +28,7 @@ use Rattle.trial.specs.Runs.{Placed}
 use Rattle.trial.specs.Passes.{lossFrom, Passes}
 
 -- the judge's pass over the tasks makes the table
-abbrev pub placed-is : (job : Job) (plan : Plan) → Sound job → PlanSound job plan → (node start finish sets leave : List ℕ) (v : Answer)
+abbrev placed-is : (job : Job) (plan : Plan) → Sound job → PlanSound job plan → (node start finish sets leave : List ℕ) (v : Answer)
     → TasksJudged job plan (table node start finish sets) leave v → Placed job (table node start finish []) leave
 placed-is job plan sound reads node start finish sets leave v h =
     record {
@@ -102,34 +102,39 @@ module _ (job : Job) (plan : Plan) where
         before = before;
       }
 
-  -- what the call of each pass answers
-  module _ (sound : Sound job) (reads : PlanSound job plan) where
+  -- what each pass answers, over the table of the plan
+  module _ (sound : Sound job) (reads : PlanSound job plan) (node start finish sets leave : List ℕ) (a : Answer)
+      (made : TasksJudged job plan (table node start finish sets) leave a) where
+    abbrev pub holds : Placed job (table node start finish []) leave
+    holds = placed-is job plan sound reads node start finish sets leave a made
+
+    abbrev Says : Bool → ℕ → Bool → Type 0
+    Says v begin strict = (w : Placed job (table node start finish []) leave) → (v ≡ true) ↔ Passes job (w .plan) begin strict
+
     trial-all : Trial job plan → All
     trial-all t = tried-all .0 (tried-is job plan sound reads .1 t)
 
-    abbrev Says : Bool → ℕ → Bool → Type 0
-    Says v begin strict = (v ≡ true) ↔ Passes job plan begin strict
+    all-trial : All → Trial job plan
+    all-trial x = tried-is job plan sound reads .0 (tried-all .1 x)
 
     pub pass-fails : (v : Bool) (begin : ℕ) (strict : Bool) → Says v begin strict → (strict ≡ true → tasks job ≤ begin) → v ≡ false
         → (false ≡ true) ↔ Trial job plan
     pass-fails v begin strict is behind e =
-        (λ h. clash false h refl, λ t. clash _ (is .1 (all-passes (trial-all t) begin strict behind)) e)
-
-    all-trial : All → Trial job plan
-    all-trial a = tried-is job plan sound reads .0 (tried-all .1 a)
+        (λ h. clash false h refl, λ t. clash _ (is holds .1 (all-passes (trial-all t) begin strict behind)) e)
 
     module _ (u v : Bool) (is-first : Says u (tasks job) true) (ok-first : u ≡ true) (is-next : Says v 0 false) (ok-next : v ≡ true) where
-      pub few-pass : tasks job ≤ runCount → (true ≡ true) ↔ Trial job plan
-      few-pass p = (
-        λ h. all-trial (all-of (is-first .0 ok-first) (λ j q. passes-before 0 (is-next .0 ok-next) j q (omega arith) (omega arith))),
-        λ t. refl,
-      )
+      all-with : ((j : ℕ) → runCount ≤ j → j < tasks job → Good (lossBefore job (rows job plan j .primary))) → Trial job plan
+      all-with rest =
+          all-trial (all-of (is-first holds .0 ok-first) λ j q. elim (decLt j runCount) [
+            | yes p ↦ passes-before 0 (is-next holds .0 ok-next) j q (omega arith) (omega arith)
+            | no p ↦ rest j (omega arith) q
+          ])
 
-      pub last-pass : tasks job ≤ runCount + runCount → (w : Bool) → Says w runCount false → (w ≡ true) ↔ Trial job plan
-      last-pass most w is = (
-        λ h. all-trial (all-of (is-first .0 ok-first) (λ j q. elim (decLt j runCount) [
-          | yes p ↦ passes-before 0 (is-next .0 ok-next) j q (omega arith) (omega arith)
-          | no p ↦ passes-before runCount (is .0 h) j q (omega arith) (omega arith)
-        ])),
-        λ t. is .1 (all-passes (trial-all t) runCount false (λ s. clash false s refl)),
+      pub few-pass : tasks job ≤ runCount → (true ≡ true) ↔ Trial job plan
+      few-pass p = (λ h. all-with (λ j q r. absurd (let z : ⊥ = omega arith in z)), λ t. refl)
+
+      pub last-pass : tasks job ≤ runCount + runCount → (x : Bool) → Says x runCount false → (x ≡ true) ↔ Trial job plan
+      last-pass most x is = (
+        λ h. all-with (λ j q r. passes-before runCount (is holds .0 h) j r (omega arith) (omega arith)),
+        λ t. is holds .1 (all-passes (trial-all t) runCount false (λ s. clash false s refl)),
       )

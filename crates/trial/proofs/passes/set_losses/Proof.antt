@@ -29,7 +29,7 @@ own-low : tie.Need-array-copy-out-own Inv-loop μ-loop
 own-low c = c .before .before .before .before .pre .0 .on _ (c .before .if1 .left)
 
 sub-moment : tie.Need-sub-moment Inv-loop μ-loop
-sub-moment c = c .before .before .before .before .before .before .pre .0 .runs _ (c .before .before .before .if1 .left)
+sub-moment c = omega (arith, c .before .before .before .before .before .before .pre .0 .runs _ (c .before .before .before .if1 .left))
 
 loop-again : tie.Need-loop-again Inv-loop μ-loop
 loop-again c =
