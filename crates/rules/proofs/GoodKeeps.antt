@@ -1,7 +1,7 @@
 -- Good runs keep the rules: with no loss, and with each primary's domain lost at the tick before that primary's finish.
 use Prim.Native.Nat.{ℕ, zero, suc, _-_, _≤_, _<_}
 use mathlib.Core.Bool.{true, false}
-use mathlib.Core.Path.{_≡_, refl, sym, subst}
+use mathlib.Core.Path.{_≡_, refl, sym, ap₂, subst}
 use lib.Dec.{leb, eqb}
 use borrow.Author.Tests.{leb-true, leb-false, le-leb, eqb-true, eq-eqb}
 use native.Mathlib.Nat.{not-suc-le-zero}
@@ -23,7 +23,7 @@ use Rattle.rules.specs.Trial.{GoodRun, alikeApart, KeptApart, lossBefore
 use Rattle.rules.proofs.CopyLaws.{overlap-is}
 use Rattle.rules.proofs.FaultSetLaws.{faults-here, faults-e}
 use Rattle.rules.proofs.RunLaws.{finished-holds, primary-finished, backup-finished, from-primary}
-use Rattle.rules.proofs.RunLaws.{from-backup, fed-at, early-finished, struck-unfinished}
+use Rattle.rules.proofs.RunLaws.{ends-before, from-backup, fed-at, early-finished, struck-unfinished}
 use Rattle.rules.proofs.MomentLaws.{lost-finished, lost-cut}
 
 module _
@@ -63,10 +63,6 @@ module _
         from-primary job sound t NoLoss k pk _ (fed-at job sound t NoLoss _ _ is-fed k pk refl)
         (primaries (link job k .from) (omega (arith, sound .rise k pk)))
 
-    ends-before : (k : ℕ) → k < links job → t (link job k .from) .primary .finish ≤ t (link job k .to) .primary .start
-    unfolding ruleD inTime
-    ends-before k pk = let b = leb-true _ (t (link job k .to) .primary .start) (keeps-d k pk) in omega arith
-
     -- a moment before the finish of every primary of q, at which the run is good
     record Struck (q : ℕ) : Type 0 where
       moment : ℕ
@@ -78,7 +74,7 @@ module _
         → ((j : ℕ) → j < tasks job → domain job (t j .primary .node) ≡ q → n < t j .primary .finish) → Struck q
     least-struck n i q p on b all =
         let last : t i .primary .finish - 1 ≡ n = omega (arith, all i p on) in
-        let e : lossBefore job (t i .primary) ≡ Lost q n = rw (on, last) in
+        let e : lossBefore job (t i .primary) ≡ Lost q n = ap₂ Lost on last in
         record { moment = n; sooner = all; good = subst Good e (before i p) }
 
     struck-by : (n i q : ℕ) → i < tasks job → domain job (t i .primary .node) ≡ q → t i .primary .finish ≤ n → Struck q
@@ -111,7 +107,7 @@ module _
           (λ k pk at weak hk.
           let r = sound .rise k pk in
           let ih = struck-before n (link job k .from) (omega arith) (omega arith) hk in
-          let ends = subst (λ i. t (link job k .from) .primary .finish ≤ t i .primary .start) at (ends-before k pk) in
+          let ends = subst (λ i. t (link job k .from) .primary .finish ≤ t i .primary .start) at (ends-before job t k (keeps-d k pk)) in
           omega (arith, runs j primary (omega arith)))
 
       module _ (j : ℕ) (p : j < tasks job) (hit : t j .faults q ≡ true) where
@@ -171,7 +167,7 @@ module _
       sender-finished =
           let last = t j .primary .finish - 1 in
           let below = sound .rise k pk in
-          let ends = ends-before k pk in
+          let ends = ends-before job t k (keeps-d k pk) in
           early-finished job sound t late last
           (λ m pm le. rw (lost-finished job (domain job (t j .primary .node)) last (t m .primary) (runs m primary pm)) (or-r _ _ (le-leb _ last le)))
           (λ m pm. runs m primary pm) keeps-ready keeps-d i (omega (arith, pj)) (omega (arith, runs j primary pj))

@@ -67,13 +67,18 @@ abbrev pub CalledOn : TaskRun → Role → Type 0
 CalledOn x primary = Unit {0}
 CalledOn x backup = isFinished (x .primary) ≡ false
 
--- the runs of the rows t under l and m
-module _
-    (job : Job) (sound : Sound job) (t : ℕ → Row) (l m : Loss)
-    (same : (j : ℕ) (a : Role) → j < tasks job → CalledOn (runsTo job t t l (tasks job) j) a
-    → isFinished (started job l (copyOf a (t j))) ≡ isFinished (started job m (copyOf a (t j))))
-    (more : (j : ℕ) (a : Role) → j < tasks job → (tick : ℕ)
-    → Holds l (copyOf a (t j)) (started job l (copyOf a (t j))) tick → Holds m (copyOf a (t j)) (started job m (copyOf a (t j))) tick)
+-- of the rows t under l and m: the same copies, of those that are called on, finish once started; and what a started copy holds under l it holds under m
+module _ (job : Job) (t : ℕ → Row) (l m : Loss) where
+  abbrev pub SameEnds : Type 0
+  SameEnds = (j : ℕ) (a : Role) → j < tasks job → CalledOn (runsTo job t t l (tasks job) j) a
+      → isFinished (started job l (copyOf a (t j))) ≡ isFinished (started job m (copyOf a (t j)))
+
+  abbrev pub HoldsMore : Type 0
+  HoldsMore = (j : ℕ) (a : Role) → j < tasks job → (tick : ℕ)
+      → Holds l (copyOf a (t j)) (started job l (copyOf a (t j))) tick → Holds m (copyOf a (t j)) (started job m (copyOf a (t j))) tick
+
+-- their runs
+module _ (job : Job) (sound : Sound job) (t : ℕ → Row) (l m : Loss) (same : SameEnds job t l m) (more : HoldsMore job t l m)
   where
     abbrev x : ℕ → TaskRun
     x = runsTo job t t l (tasks job)

@@ -39,6 +39,12 @@ pub finished-attempt : (job : Job) (loss : Loss) (b : Bool) (c : Copy) → b ≡
 unfolding attempt
 finished-attempt job loss b c e h = rw e h
 
+-- by D a primary ends before the next begins
+pub ends-before : (job : Job) (t : ℕ → Row) (k : ℕ) → ruleD job (link job k) (t (link job k .from)) (t (link job k .to) .primary) ≡ true
+    → t (link job k .from) .primary .finish ≤ t (link job k .to) .primary .start
+unfolding ruleD inTime
+ends-before job t k h = let b = leb-true _ (t (link job k .to) .primary .start) h in omega arith
+
 module _ (job : Job) (sound : Sound job) (t : ℕ → Row) (loss : Loss) where
   abbrev x : ℕ → TaskRun
   x = runsTo job t t loss (tasks job)
@@ -100,10 +106,6 @@ module _ (job : Job) (sound : Sound job) (t : ℕ → Row) (loss : Loss) where
       (ready : (j : ℕ) → j < tasks job → ruleReady job j (t j .primary) ≡ true)
       (feeds : (k : ℕ) → k < links job → ruleD job (link job k) (t (link job k .from)) (t (link job k .to) .primary) ≡ true)
     where
-      ends-before : (k : ℕ) → k < links job → t (link job k .from) .primary .finish ≤ t (link job k .to) .primary .start
-      unfolding ruleD inTime
-      ends-before k pk = let b = leb-true _ (t (link job k .to) .primary .start) (feeds k pk) in omega arith
-
       early-to : (n j : ℕ) → j < n → n ≤ tasks job → t j .primary .finish ≤ h → isFinished (x j .primary) ≡ true
       unfolding fed arrived ruleD
       early-to zero j b p e = absurd (not-suc-le-zero b)
@@ -111,7 +113,7 @@ module _ (job : Job) (sound : Sound job) (t : ℕ → Row) (loss : Loss) where
           finished-primary j (omega arith) (ready j (omega arith))
           (every-into job j _ .1 (λ k pk at.
           let below = sound .rise k pk in
-          let ends = subst (λ i. t (link job k .from) .primary .finish ≤ t i .primary .start) at (ends-before k pk) in
+          let ends = subst (λ i. t (link job k .from) .primary .finish ≤ t i .primary .start) at (ends-before job t k (feeds k pk)) in
           let fin = early-to n (link job k .from) (omega arith) (omega arith) (omega (arith, runs j (omega arith))) in
           or-l _ _ (and-i _ _ fin (subst (λ i. inTime job (link job k) (t (link job k .from) .primary) (t i .primary) ≡ true) at (feeds k pk)))))
           (spares j (omega arith) e)

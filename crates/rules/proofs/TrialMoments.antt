@@ -1,7 +1,7 @@
 -- The moments that the trial replays stand for all others.
 use Prim.Native.Nat.{ℕ, zero, suc, _+_, _-_, max, _≤_, _<_}
 use mathlib.Core.Bool.{Bool, true, false, not}
-use mathlib.Core.Path.{_≡_, refl, sym, _∙_, subst}
+use mathlib.Core.Path.{_≡_, refl, sym, _∙_, ap₂, subst}
 use lib.Dec.{leb, eqb}
 use borrow.Author.Tests.{leb-true, le-leb, eqb-true, eqb-false, eq-eqb}
 use native.Mathlib.Nat.{not-suc-le-zero}
@@ -19,14 +19,14 @@ use Rattle.rules.specs.declared.Loss.the-variants.{NoLoss, Lost}
 use Rattle.rules.specs.Copies.{copy, domain, hasNode}
 use Rattle.rules.specs.Rules.{Row, faultSet, rows, ruleF}
 use Rattle.rules.specs.Replay.{isFinished, started, runsTo, replay}
-use Rattle.rules.specs.Survival.{LossOf, Role, primary, backup, copyOf, Holds}
+use Rattle.rules.specs.Survival.{LossOf, Role, primary, backup, copyOf}
 use Rattle.rules.specs.Firm.{struck}
 use Rattle.rules.specs.Trial.{GoodRun, Trial, KeptApart, lossBefore}
 use Rattle.rules.proofs.FaultSetLaws.{rows-faults, row-primary}
 use Rattle.rules.proofs.LossLaws.{from-start}
 use Rattle.rules.proofs.FirmSurvives.{covered}
 use Rattle.rules.proofs.PassedSurvives.{kept-firm, planned-runs}
-use Rattle.rules.proofs.MomentLaws.{lost-finished, lost-holds, CalledOn, good-less}
+use Rattle.rules.proofs.MomentLaws.{lost-finished, lost-holds, CalledOn, SameEnds, HoldsMore, good-less}
 use Rattle.rules.proofs.GoodKeeps.{good-kept}
 
 -- the rows t, each copy of which runs
@@ -57,14 +57,11 @@ module _
             (λ h. le-leb _ f (quiet j a p called (eqb-true _ q on) (leb-true _ g h)))))
             (λ off. rw off)
 
-        same : (j : ℕ) (a : Role) → j < tasks job → CalledOn (runsTo job t t (Lost q f) (tasks job) j) a
-            → isFinished (started job (Lost q f) (copyOf a (t j))) ≡ isFinished (started job (Lost q g) (copyOf a (t j)))
+        same : SameEnds job t (Lost q f) (Lost q g)
         same j a p called =
             rw (lost-finished job q f (copyOf a (t j)) (runs j a p), lost-finished job q g (copyOf a (t j)) (runs j a p)) (fits j a p called)
 
-        more : (j : ℕ) (a : Role) → j < tasks job → (tick : ℕ)
-            → Holds (Lost q f) (copyOf a (t j)) (started job (Lost q f) (copyOf a (t j))) tick
-            → Holds (Lost q g) (copyOf a (t j)) (started job (Lost q g) (copyOf a (t j))) tick
+        more : HoldsMore job t (Lost q f) (Lost q g)
         more j a p tick h =
             let w = lost-holds job q f (copyOf a (t j)) tick .0 h in
             lost-holds job q g (copyOf a (t j)) tick .1 (w .0, w .1, λ on. let b = w .2 on in omega arith)
@@ -74,13 +71,10 @@ module _
     unfolding started
     good-late q f over = good-less job sound t (Lost q f) NoLoss same more
       where
-        same : (j : ℕ) (a : Role) → j < tasks job → CalledOn (runsTo job t t (Lost q f) (tasks job) j) a
-            → isFinished (started job (Lost q f) (copyOf a (t j))) ≡ isFinished (started job NoLoss (copyOf a (t j)))
+        same : SameEnds job t (Lost q f) NoLoss
         same j a p called = rw (lost-finished job q f (copyOf a (t j)) (runs j a p), le-leb _ f (over j a p)) (or-r _ _ refl)
 
-        more : (j : ℕ) (a : Role) → j < tasks job → (tick : ℕ)
-            → Holds (Lost q f) (copyOf a (t j)) (started job (Lost q f) (copyOf a (t j))) tick
-            → Holds NoLoss (copyOf a (t j)) (started job NoLoss (copyOf a (t j))) tick
+        more : HoldsMore job t (Lost q f) NoLoss
         more j a p tick h = let w = lost-holds job q f (copyOf a (t j)) tick .0 h in (w .0, w .1)
 
     -- no finish of the first n tasks is above this
@@ -115,7 +109,7 @@ module _
         let here = eqb-true (domain job (t j .primary .node)) q (and-l _ _ h) in
         let last = eqb-true (t j .primary .finish) (suc f) (and-r _ _ h) in
         let tick : t j .primary .finish - 1 ≡ f = omega arith in
-        let e : lossBefore job (t j .primary) ≡ Lost q f = rw (here, tick) in
+        let e : lossBefore job (t j .primary) ≡ Lost q f = ap₂ Lost here tick in
         subst Good e
 
     -- else, on q, it finishes by f if it does by the tick after

@@ -1,6 +1,7 @@
 pub mod WordLaws
 pub mod RunLaws
 pub mod PlacedLaws
+pub mod LossBits
 pub mod UptoLaws
 pub mod PassLaws
 pub mod GoodLaws

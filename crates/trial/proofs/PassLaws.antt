@@ -11,7 +11,6 @@ use native.Mathlib.Decide.{decLt}
 use native.Mathlib.Omega.{arith}
 use Rattle.reader.specs.declared.job.Node.{Node}
 use Rattle.reader.specs.declared.job.Task.{Task}
-use Rattle.reader.specs.Tests.{_implies_}
 use Rattle.reader.specs.First.{every}
 use Rattle.reader.proofs.TestLaws.{clash, not-true, and-i, below-suc}
 use Rattle.reader.proofs.FirstLaws.{every-start, every-more, every-e}
@@ -20,15 +19,6 @@ use Rattle.copies.specs.Sets.{everyGroup}
 use Rattle.trial.specs.Words.{runCount, withoutOf, eitherOf}
 use Rattle.trial.specs.Runs.{noGroup, lossAt}
 use Rattle.trial.specs.Passes.{isFull, doneIn, endsIn, groupAt, lossIn, Losses, Losable}
-
--- a test that is asked for, or not
-pub asked : (s b v : Bool) → s ≡ true → v ≡ b → v ≡ (s implies b)
-unfolding _implies_
-asked s b v e f = rw e f
-
-pub not-asked : (s b : Bool) → s ≡ false → true ≡ (s implies b)
-unfolding _implies_
-not-asked s b e = rw e
 
 -- the test holds of the first j of n
 module _ (n : ℕ) (test : ℕ → Bool) where

@@ -16,12 +16,9 @@ use reader::job::Node;
 use rules::Copy;
 ghost use mathlib.Core.Path.{_≡_};
 ghost use mathlib.Core.List.{[]};
-ghost use Prim.Native.Nat.{_+_, _*_, _≤_, _<_};
-ghost use lib.ListN.{getD, set, length};
-ghost use Rattle.reader.specs.Limits.{maxTasks, maxStart};
+ghost use lib.ListN.{length};
 ghost use Rattle.reader.specs.Entries.{tasks};
 ghost use Rattle.copies.specs.Table.{copyCount, table, entry};
-ghost use Rattle.copies.specs.Arrival.{SumFits};
 ghost use Rattle.trial.specs.Runs.{fedOf, fedWith, Sendable, Settleable, Settled, Placed, Told};
 
 // The runs in which a copy has one of two results, of copies that end in these runs.
