@@ -188,8 +188,9 @@ uint64_t seqopchi_judge(const uint8_t *job, size_t job_len,
                         const uint8_t *plan, size_t plan_len);
 
 /* Whether plan outlives each loss in the runs of seqopchi_replay and
- * seqopchi_replay_loss, so by the listed run times. A primary and a backup may share
- * time where no run has both started. Nothing is written. In this order:
+ * seqopchi_replay_loss, so by the listed run times: a yes is no promise for copies that
+ * end sooner. A primary and a backup may share time where no run has both started.
+ * Nothing is written. In this order:
  *   1 to 6        the faults of the job
  *   1 to 4, 6, 7  the faults of the plan
  *   0             yes: without loss every primary finishes; and with no loss, and with
