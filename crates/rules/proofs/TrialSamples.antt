@@ -7,7 +7,7 @@ use Rattle.reader.specs.Samples.{J, JReady, JWithoutLink, plan1}
 use Rattle.rules.specs.Judge.{judge}
 use Rattle.rules.specs.Trial.{meet, clear, doneBy, goodRun, goodUnder, triedUnder, Trial, tried}
 use Rattle.rules.specs.TrialSamples.{sharedPlan, pairedRack, pairedPlan, tightJob, tightPlan, trialTable, answeredTrials}
-use Rattle.rules.specs.WrongTrials.{byStarts, byFinishes, byOneNode, byLosses, byBackups}
+use Rattle.rules.specs.WrongTrials.{byStarts, byFinishes, byFirstNodes, byLosses, byBackups}
 use Rattle.rules.proofs.Samples.{computed}
 use Rattle.rules.proofs.Instance.{sound-J, plan-sound-J}
 use Rattle.rules.proofs.TrialLaws.{tried-is}
@@ -29,7 +29,7 @@ pub starts-alone : (byStarts pairedRack pairedPlan ≡ true) × (tried pairedRac
 unfolding tested
 starts-alone = (refl, refl)
 
-pub one-node-alone : (byOneNode 2 pairedRack pairedPlan ≡ true) × (tried pairedRack pairedPlan ≡ false)
+pub one-node-alone : (byFirstNodes pairedRack pairedPlan ≡ true) × (tried pairedRack pairedPlan ≡ false)
 unfolding tested
 one-node-alone = (refl, refl)
 

@@ -1,11 +1,11 @@
 -- Wrong trials, as tests: which runs each of them looks at.
 use Prim.Native.Nat.{ℕ}
-use mathlib.Core.Bool.{Bool}
+use mathlib.Core.Bool.{Bool, not}
 use lib.Dec.{eqb}
 use Rattle.reader.specs.declared.job.Job.{Job}
 use Rattle.reader.specs.declared.plan.Plan.{Plan}
 use Rattle.reader.specs.Tests.{_and_, _implies_}
-use Rattle.reader.specs.First.{every}
+use Rattle.reader.specs.First.{every, any}
 use Rattle.reader.specs.Entries.{tasks}
 use Rattle.rules.specs.declared.Copy.{Copy}
 use Rattle.rules.specs.declared.Loss.{Loss}
@@ -27,11 +27,14 @@ byStarts job plan =
 abbrev pub byFinishes : Job → Plan → Bool
 byFinishes job plan = triedUnder job plan λ j. Lost (domain job (rows job plan j .primary .node)) (rows job plan j .primary .finish)
 
--- moments of one node of each group only: this one
-abbrev pub byOneNode : ℕ → Job → Plan → Bool
-byOneNode node job plan =
+-- moments of one node of each group only: the first
+abbrev isFirst : Job → ℕ → Bool
+isFirst job node = not (any node λ n. eqb (domain job n) (domain job node))
+
+abbrev pub byFirstNodes : Job → Plan → Bool
+byFirstNodes job plan =
     triedUnder job plan (λ j. NoLoss)
-    and every (tasks job) λ j. let p = rows job plan j .primary in eqb (p .node) node implies goodUnder job plan (lossBefore job p)
+    and every (tasks job) λ j. let p = rows job plan j .primary in isFirst job (p .node) implies goodUnder job plan (lossBefore job p)
 
 -- the run without loss left out, though every primary finishes in it
 abbrev pub byLosses : Job → Plan → Bool

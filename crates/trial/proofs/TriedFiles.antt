@@ -21,7 +21,9 @@ use Rattle.rules.specs.Judge.{judge}
 use Rattle.rules.specs.Trial.{Trial, NoSharing}
 use Rattle.rules.proofs.TrialAgrees.{passed-trial, trial-agrees, trial-refused}
 use Rattle.seqopchi.specs.Files.{planIn, filesFault, judgeFiles}
+use Rattle.seqopchi.specs.Unpacks.{Unpacks}
 use Rattle.seqopchi.proofs.ReadLaws.{FilesDone, files-sound}
+use Rattle.seqopchi.proofs.Unpacked.{judge-unpacks}
 use Rattle.trial.specs.Calls.{Answers, TrialAnswers}
 
 -- a file is refused, and that is handed on
@@ -52,6 +54,11 @@ module _ (file plan : List ℕ) (n : ℕ) (answers : TrialAnswers file plan n) w
   pub refused-alike : (r : Refusal) → filesFault file plan ≡ some r → n ≡ result (answered (judgeFiles file plan))
   unfolding Answers judgeFiles
   refused-alike r bad = (rw bad at answers) ∙ sym (ap (λ f. result (answered f)) (stop _ bad))
+
+  -- so number and both places of a refusal can be taken back out of the result
+  pub tried-unpacks : (r : Refusal) → filesFault file plan ≡ some r → Unpacks (tell r) n
+  unfolding judgeFiles
+  tried-unpacks r bad = subst (Unpacks (tell r)) (sym (refused-alike r bad)) (judge-unpacks file plan r (stop _ bad))
 
   module _ (fine : filesFault file plan ≡ none) where
     -- 0 exactly if the trial says yes

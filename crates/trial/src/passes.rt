@@ -101,8 +101,9 @@ fn all_end(strict: bool, ended: &[u32; Copies::COUNT], n: usize) -> bool
     true
 }
 
-// Whether the runs with the losses of the primaries from `first` on are good: each task is done by its deadline, and no two started copies overlap,
-// for which the sets of the copies that start in a run meet. If `strict`, every primary must end too.
+// Whether the runs with the losses of the primaries from `first` on are good: each task is done by its deadline, and no two started copies overlap.
+// As the set of a copy the judge is lent the runs in which it starts: it finds copies that overlap and whose sets meet. If `strict`, every primary must
+// end too.
 pub fn pass<'c>(
     job: Job,
     node: &'c [u32; Copies::COUNT],
