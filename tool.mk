@@ -13,17 +13,18 @@ DEMO_LOSS := 1@16
 tool: build/seqopchi
 
 # Proved and built anew when a source or a proof has changed: 'rt check' proves what
-# the library rests on, two crates at a time. Three objects, so that what one of them calls
+# the library rests on, two crates at a time. Four objects, so that what one of them calls
 # more than once is still inlined in the others. The copy outlives 'rt ci', which removes target/.
 build/libseqopchi.a: $(shell find crates -type f 2>/dev/null)
 	rt check writer asking replay
 	rt staticlib seqopchi
 	rt staticlib booking
 	rt staticlib trial
+	rt staticlib history
 	@mkdir -p build
-	cd build && for a in seqopchi booking trial; do ar x ../target/staticlib/lib$$a.a; done
+	cd build && for a in seqopchi booking trial history; do ar x ../target/staticlib/lib$$a.a; done
 	rm -f $@
-	ar rcs $@ build/seqopchi.o build/booking.o build/trial.o
+	ar rcs $@ build/seqopchi.o build/booking.o build/trial.o build/history.o
 
 build/seqopchi: $(TOOL_SOURCES) $(TOOL_HEADERS) $(SEQOPCHI_LIB)
 	@mkdir -p build
@@ -86,6 +87,11 @@ charts: build/seqopchi
 	build/seqopchi chart demo/oscilloscope.job demo/passed.plan \
 		--lose $(DEMO_LOSS) --times examples/friday-times.txt \
 		-o examples/friday-times.svg
+	build/seqopchi times demo/oscilloscope.job examples/friday-log.txt \
+		-o demo/next.job
+	build/seqopchi plan demo/next.job -o demo/next.plan
+	build/seqopchi chart demo/next.job demo/next.plan \
+		-o examples/oscilloscope-next.svg
 	build/seqopchi pack examples/oscilloscope-shared.txt \
 		--job demo/oscilloscope.job -o demo/shared.plan
 	build/seqopchi chart demo/oscilloscope.job demo/shared.plan \

@@ -1,5 +1,6 @@
 /* seqopchi.h: judge, trial, planner and replay of rack plans, the fault sets of their
- * tasks, and the booking of one more task, on byte buffers.
+ * tasks, the booking of one more task, and run times from the last runs, on byte
+ * buffers.
  *
  * A job file lists nodes, tasks and links. A plan file gives each task a
  * primary and a backup copy. Each number in a file is 4 bytes, unsigned, low
@@ -13,12 +14,14 @@
  * count, and from and delay of each link to it, rising strictly by from. A booking is
  * a description with four numbers behind it: primary node, primary start, backup
  * node, backup start. A list of times says how many ticks each copy of a plan took:
- * for each task in turn its primary's, then its backup's, 8 N bytes. None of these
- * three has a version of its own.
+ * for each task in turn its primary's, then its backup's, 8 N bytes. A log has a record
+ * for each copy that ran to its end, the newest last: task, node, and how many ticks it
+ * took. It has no count and may be of any length, also empty. None of these four has a
+ * version of its own.
  *
  * POINTERS. These are the only conditions that a caller has to keep:
- * - A pointer is valid for reading (job, plan, task, booking, times) or for reading
- *   and writing (out, out_job, out_plan) of as many bytes as the length behind it
+ * - A pointer is valid for reading (job, plan, task, booking, times, log) or for
+ *   reading and writing (out, out_job, out_plan) of as many bytes as the length behind it
  *   says. The length of one buffer is at most PTRDIFF_MAX, as for any object in C.
  * - places is valid for reading and writing of four numbers and aligned as a
  *   uint32_t is.
@@ -40,9 +43,10 @@
  * on success every byte behind what is written there keeps its value.
  *
  * READING. "The faults of the job", "of the plan", "of the description", "of the
- * booking" and "of the list" below are these, in file order, each with its byte offset
- * from the start of that buffer as the first place and 0 as the second. The result does
- * not say which buffer is meant. seqopchi_plan with out_len 0 tells whether a job reads
+ * booking", "of the list" and "of the log" below are these, in file order, each with its
+ * byte offset from the start of that buffer as the first place and 0 as the second. The
+ * result does not say which buffer is meant. An offset in a log from 4 GiB on is given
+ * modulo 2 to the power 32. seqopchi_plan with out_len 0 tells whether a job reads
  * well; where seqopchi_judge gives 0, job and plan have no fault.
  *   1 short       fewer than 4 bytes are left for a number
  *   2 version     a job's version is none of 1 to 4, or a plan's is not 1
@@ -50,16 +54,18 @@
  *   4 value       any other number is outside its limits; also a link's to
  *                 that is not above its from. A from in a description is below N.
  *                 A time in a list is from 1 to the listed run time of that copy's
- *                 task on the node where the plan has that copy
+ *                 task on the node where the plan has that copy. In a log a task is
+ *                 below N, a node below P, and the ticks are from 1 to 1,000,000
  *   5 link order  a link is not above the one before (offset of its from), by from
  *                 and to in a job, by from in a description or booking; found
  *                 after the link's delay
  *   6 tail        bytes follow the last number (offset of the first)
- *   7 unable      a copy is placed on a node where its task has run time 0
- *                 (offset of that node); only in a plan or booking
+ *   7 unable      a copy is placed on a node where its task has run time 0, or ran
+ *                 there by a log (offset of that node); only in a plan, booking or log
  * 2 arises in neither description nor booking. More links than tasks are no count
  * fault there: up to 512 may be said, and the links then end in 1, 4 or 5. A list has
- * no other faults than 1, 4 and 6.
+ * no other faults than 1, 4 and 6, and a log none but 1, 4 and 7: where bytes are left
+ * behind a record, another is due.
  */
 #ifndef SEQOPCHI_H
 #define SEQOPCHI_H
@@ -85,8 +91,11 @@ extern "C" {
 #define SEQOPCHI_MIN_DEADLINE 1
 /* Ready times, deadlines, run times, delays and starts. */
 #define SEQOPCHI_MAX_TIME 1000000
-/* A copy's time in a list, which has its listed run time as the other limit. */
+/* A copy's time in a list, which has its listed run time as the other limit, and in a
+ * log, where that is SEQOPCHI_MAX_TIME. */
 #define SEQOPCHI_MIN_ACTUAL_TIME 1
+/* Of the records of a log so many of the newest count. */
+#define SEQOPCHI_LOG_WINDOW 256
 
 /* Lengths in bytes of what is read and written. Those of a job, a description and a
  * booking go by the job's version: the entry of a node (detect time; send time, from
@@ -103,6 +112,8 @@ extern "C" {
 #define SEQOPCHI_TIMES_BYTES(tasks) (8 * (tasks))
 #define SEQOPCHI_REPLAY_BYTES(tasks) (12 * (tasks))
 #define SEQOPCHI_FAULT_SETS_BYTES(tasks) (4 * (tasks))
+#define SEQOPCHI_LOG_RECORD_BYTES 12
+#define SEQOPCHI_RUN_TIMES_BYTES(nodes, tasks) (4 * (nodes) * (tasks))
 #define SEQOPCHI_DESCRIPTION_BYTES(version, nodes, links) \
     (SEQOPCHI_TASK_BYTES(version, nodes) + 4 + 8 * (links))
 #define SEQOPCHI_BOOKING_BYTES(version, nodes, links) \
@@ -112,6 +123,8 @@ extern "C" {
 #define SEQOPCHI_MAX_TIMES_BYTES SEQOPCHI_TIMES_BYTES(SEQOPCHI_MAX_TASKS)
 #define SEQOPCHI_MAX_REPLAY_BYTES SEQOPCHI_REPLAY_BYTES(SEQOPCHI_MAX_TASKS)
 #define SEQOPCHI_MAX_FAULT_SETS_BYTES SEQOPCHI_FAULT_SETS_BYTES(SEQOPCHI_MAX_TASKS)
+#define SEQOPCHI_MAX_RUN_TIMES_BYTES \
+    SEQOPCHI_RUN_TIMES_BYTES(SEQOPCHI_MAX_NODES, SEQOPCHI_MAX_TASKS)
 /* The longest that read well, of the newest version: with a link from each task. */
 #define SEQOPCHI_MAX_DESCRIPTION_BYTES \
     SEQOPCHI_DESCRIPTION_BYTES(SEQOPCHI_NEWEST_JOB_VERSION, SEQOPCHI_MAX_NODES, \
@@ -339,6 +352,33 @@ uint64_t seqopchi_commit(const uint8_t *job, size_t job_len,
                          const uint8_t *booking, size_t booking_len,
                          uint8_t *out_job, size_t out_job_len,
                          uint8_t *out_plan, size_t out_plan_len);
+
+/* Run times from the last runs, as a table. Of the newest 256 records of the log, or all
+ * if there are fewer, the time of a task on a node is the largest ticks of its records
+ * on that node; where there is none it is the job's run time. The whole log is read, the
+ * older records too, in one pass and in memory that does not grow with it. In this
+ * order:
+ *   1 to 6   the faults of the job
+ *   17       out_len is below 4 N P; 4 N P / 0
+ *   1, 4, 7  the faults of the log
+ *   0        the first 4 N P bytes of out are a number for each task and node: task by
+ *            task, in each by node
+ */
+uint64_t seqopchi_run_times(const uint8_t *job, size_t job_len,
+                            const uint8_t *log, size_t log_len,
+                            uint8_t *out, size_t out_len);
+
+/* The job with these run times in place of its own: all else stays as it is, its version
+ * and length too, and a node that cannot run a task cannot in the new job either. In
+ * this order:
+ *   1 to 6   the faults of the job
+ *   17       out_len is below job_len; job_len / 0
+ *   1, 4, 7  the faults of the log
+ *   0        the first job_len bytes of out are a job that reads well
+ */
+uint64_t seqopchi_renew_job(const uint8_t *job, size_t job_len,
+                            const uint8_t *log, size_t log_len,
+                            uint8_t *out, size_t out_len);
 
 /* The parts of a result. */
 static inline unsigned seqopchi_number(uint64_t result)

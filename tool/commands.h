@@ -12,7 +12,8 @@ struct options {
     const char *output;        /* "-" where none was given */
     const char *second_output; /* of a command that has two, else null */
     const char *job, *plan;    /* beside a text; null where none was given */
-    const char *times;         /* a list of times, or null */
+    const char *times, *log;   /* a list of times, a log, or null */
+    const char *new_job;       /* to compare with, or null */
     bool lose;
     uint32_t group, tick; /* of the loss */
 };
@@ -29,6 +30,7 @@ int run_unpack(const struct options *o);
 int run_chart(const struct options *o);
 int run_ask(const struct options *o);
 int run_commit(const struct options *o);
+int run_times(const struct options *o);
 
 /* A job, and a plan and a list of times where there are, as they stand in the files. */
 struct input {

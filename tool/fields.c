@@ -1,5 +1,5 @@
-/* What the number at a byte offset of a job, a plan, one more task or a list of times
- * is. */
+/* What the number at a byte offset of a job, a plan, one more task, a list of times or a
+ * log is. */
 #include "fields.h"
 
 #include "layout.h"
@@ -145,5 +145,27 @@ struct field times_field(const struct file *job, const struct file *plan, size_t
     snprintf(f.name, sizeof f.name, "the time of the %s of task %u on node %u",
              copy.backup ? "backup" : "primary", (unsigned)copy.task,
              (unsigned)copy.node);
+    return f;
+}
+
+struct field log_field(const struct file *job, const struct file *log, size_t at)
+{
+    size_t record = at / SEQOPCHI_LOG_RECORD_BYTES;
+    size_t begin = record * SEQOPCHI_LOG_RECORD_BYTES;
+    struct field f = field(0, job_tasks(job) - 1, "");
+
+    if (at == begin) {
+        snprintf(f.name, sizeof f.name, "the task of record %zu", record);
+    } else if (at == begin + 4) {
+        f.high = job_nodes(job) - 1;
+        snprintf(f.name, sizeof f.name, "the node of task %u in record %zu",
+                 (unsigned)number_at(log, begin), record);
+    } else {
+        f.low = SEQOPCHI_MIN_ACTUAL_TIME;
+        f.high = SEQOPCHI_MAX_TIME;
+        snprintf(f.name, sizeof f.name, "the time of task %u on node %u in record %zu",
+                 (unsigned)number_at(log, begin), (unsigned)number_at(log, begin + 4),
+                 record);
+    }
     return f;
 }

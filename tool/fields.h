@@ -1,5 +1,5 @@
-/* What the number at a byte offset of a job, a plan, one more task or a list of times
- * is. */
+/* What the number at a byte offset of a job, a plan, one more task, a list of times or a
+ * log is. */
 #ifndef TOOL_FIELDS_H
 #define TOOL_FIELDS_H
 
@@ -21,5 +21,8 @@ struct field new_task_field(const struct file *job, const struct file *task, siz
 
 /* The same in a list of times, behind a job and a plan that read well. */
 struct field times_field(const struct file *job, const struct file *plan, size_t at);
+
+/* The same in a log, behind a job that reads well. */
+struct field log_field(const struct file *job, const struct file *log, size_t at);
 
 #endif

@@ -29,7 +29,14 @@ bool is_dash(const char *path)
 
 int file_read(struct file *f, const char *path, size_t most)
 {
+    return file_read_on(f, path, most, NULL, NULL);
+}
+
+int file_read_on(struct file *f, const char *path, size_t first, reads_on *on,
+                 const struct file *beside)
+{
     FILE *in = is_dash(path) ? stdin : fopen(path, "rb");
+    size_t room = 0;
     int error;
 
     f->name = is_dash(path) ? "standard input" : path;
@@ -38,9 +45,12 @@ int file_read(struct file *f, const char *path, size_t most)
     f->data = NULL;
     if (!in)
         return failed("cannot read '%s': %s", f->name, strerror(errno));
-    f->data = allocated(most);
     errno = 0;
-    f->length = fread(f->data, 1, most, in);
+    do {
+        room = room ? 2 * room : first;
+        f->data = reallocated(f->data, room);
+        f->length += fread(f->data + f->length, 1, room - f->length, in);
+    } while (f->length == room && on && on(f, beside));
     error = ferror(in) ? errno : 0;
     if (in != stdin)
         fclose(in);

@@ -21,6 +21,14 @@ bool is_dash(const char *path);
 
 /* The first bytes of a file, at most `most`. 0, or 2 after a message. */
 int file_read(struct file *f, const char *path, size_t most);
+
+/* Whether a file is to be read on, by what there is of it and what it goes with. */
+typedef bool reads_on(const struct file *so_far, const struct file *beside);
+
+/* The first bytes, at most `first`; while there may be more and `on` says so, twice as
+ * many. */
+int file_read_on(struct file *f, const char *path, size_t first, reads_on *on,
+                 const struct file *beside);
 void file_free(struct file *f);
 
 /* What is written to a path. */

@@ -1,5 +1,5 @@
-/* Where each number of a job, a plan, one more task or a list of times stands, by the
- * version of the job. */
+/* Where each number of a job, a plan, one more task, a list of times or a log stands, by
+ * the version of the job. */
 #include "layout.h"
 
 #include "seqopchi.h"
@@ -199,6 +199,22 @@ struct copy plan_copy(const struct file *job, const struct file *plan,
 uint32_t actual_time(const struct file *times, const struct copy *copy)
 {
     return number_at(times, 8 * (size_t)copy->task + (copy->backup ? 4 : 0));
+}
+
+size_t log_records(const struct file *log)
+{
+    return log->length / SEQOPCHI_LOG_RECORD_BYTES;
+}
+
+struct record log_record(const struct file *log, size_t record)
+{
+    size_t at = SEQOPCHI_LOG_RECORD_BYTES * record;
+    struct record r;
+
+    r.task = number_at(log, at);
+    r.node = number_at(log, at + 4);
+    r.ticks = number_at(log, at + 8);
+    return r;
 }
 
 static int by_value(uint32_t a, uint32_t b)

@@ -1,6 +1,6 @@
-/* Where each number of a job, a plan, one more task or a list of times stands, by the
- * version of the job. The library has said that the file reads well, or that the part before the
- * number read is without fault. */
+/* Where each number of a job, a plan, one more task, a list of times or a log stands, by
+ * the version of the job. The library has said that the file reads well, or that the part
+ * before the number read is without fault. */
 #ifndef TOOL_LAYOUT_H
 #define TOOL_LAYOUT_H
 
@@ -76,6 +76,14 @@ struct copy plan_copy(const struct file *job, const struct file *plan,
 
 /* How long a copy took, in a list of times. */
 uint32_t actual_time(const struct file *times, const struct copy *copy);
+
+/* Of a log, whose record 0 is the oldest. */
+struct record {
+    uint32_t task, node, ticks;
+};
+
+size_t log_records(const struct file *log);
+struct record log_record(const struct file *log, size_t record);
 
 /* All copies of a plan by node, then start, then task, primary before backup.
  * The caller frees them. */

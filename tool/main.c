@@ -1,5 +1,5 @@
-/* seqopchi: the command line over judge, trial, planner, replay, fault sets and
- * booking. */
+/* seqopchi: the command line over judge, trial, planner, replay, fault sets, booking and
+ * run times from the last runs. */
 #include "commands.h"
 
 #include "seqopchi.h"
@@ -9,16 +9,16 @@
 #include <stdio.h>
 #include <string.h>
 
-#define TOOL_VERSION "1.7"
+#define TOOL_VERSION "1.8"
 
 enum {
     OUTPUT = 1, OUTPUT_DUE = 2, LOSS = 4, JOB = 8, TWO_OUTPUTS = 16, PLAN = 32,
-    TIMES = 64
+    TIMES = 64, LOG = 128, NEW = 256
 };
 
 static const struct { const char *word; int option; } option_words[] = {
     { "-o", OUTPUT }, { "--lose", LOSS }, { "--job", JOB }, { "--plan", PLAN },
-    { "--times", TIMES }
+    { "--times", TIMES }, { "--log", LOG }, { "--new", NEW }
 };
 
 struct command {
@@ -57,10 +57,12 @@ static const struct command commands[] = {
       "plan a job and print the listing",
       "Prints a line for each task: task, primary node, start, backup node,\n"
       "start. After a refusal it prints 'refused', number and both places.\n" },
-    { "show", run_show, 1, 2, OUTPUT, "show JOB [PLAN]",
+    { "show", run_show, 1, 2, OUTPUT | NEW, "show JOB [PLAN] [--new JOB2]",
       "print a job, and a plan, as readable text",
       "Prints the job and, with a plan, the judge's answer, the places by task\n"
-      "and the copies of each node in order of time.\n" },
+      "and the copies of each node in order of time. With --new the job is compared\n"
+      "with JOB2: beneath each task stand the run times that differ there, and behind\n"
+      "the links all else that does. A plan is then judged for both jobs.\n" },
     { "trace", run_trace, 2, 2, OUTPUT, "trace JOB PLAN",
       "tell how the fault sets come about, task by task",
       "Prints the judge's answer; then, for each task in turn, the links that arrive\n"
@@ -71,18 +73,18 @@ static const struct command commands[] = {
       "not pass the judge.\n" },
     { "pack", run_pack, 1, 1, OUTPUT | OUTPUT_DUE | JOB | PLAN,
       "pack TEXT -o FILE [--job JOB [--plan PLAN]]",
-      "make a job, plan, task or times file from text",
+      "make a job, plan, task, times or log file from text",
       "Writes the file that the text stands for; its first word says whether it\n"
-      "is a job, a plan, a task or a list of times. A job must read well, and so must\n"
-      "a plan if its job is named by --job, and a list of times if its job and plan\n"
-      "are named by --job and --plan. For a task --job is due. The text form is\n"
-      "described in tool/TEXT.md.\n" },
-    { "unpack", run_unpack, 1, 3, OUTPUT | TIMES,
-      "unpack JOB [PLAN [TASK | --times TIMES]] [-o TEXT]",
-      "make text from a job, plan, task or times file",
+      "is a job, a plan, a task, a list of times or a log. A job must read well, and so\n"
+      "must a plan or log if its job is named by --job, and a list of times if its job\n"
+      "and plan are named by --job and --plan. For a task --job is due. The text form\n"
+      "is described in tool/TEXT.md.\n" },
+    { "unpack", run_unpack, 1, 3, OUTPUT | TIMES | LOG,
+      "unpack JOB [PLAN [TASK | --times TIMES] | --log LOG] [-o TEXT]",
+      "make text from a job, plan, task, times or log file",
       "Prints the text form of the last file that is given; that of a job in its\n"
       "own version. With a task the plan must pass the judge. A list of times stands\n"
-      "behind --times: no packed file says what it is.\n" },
+      "behind --times and a log behind --log: no packed file says what it is.\n" },
     { "chart", run_chart, 2, 2, OUTPUT | OUTPUT_DUE | LOSS | TIMES,
       "chart JOB PLAN [--lose GROUP@TICK] [--times TIMES] -o FILE.svg",
       "draw a plan, or its run",
@@ -103,6 +105,14 @@ static const struct command commands[] = {
       "job and the longer plan, both or none, and prints what was booked. TASK is a\n"
       "description or a booking, as text or packed; without a place it gets the one\n"
       "that ask would print. JOB2 and PLAN2 may be JOB and PLAN, and neither is -.\n" },
+    { "times", run_times, 2, 2, OUTPUT | OUTPUT_DUE, "times JOB LOG -o JOB2",
+      "take run times from the log of the last runs",
+      "Writes the job with the run times of the log, as text or packed, and prints\n"
+      "those that changed; if JOB2 is -, it prints only the job. Of the newest 256\n"
+      "records the largest ticks of a task on a node are its run time there; where\n"
+      "there is none, the job's stays. Older records count no more, but are read too.\n"
+      "A node that cannot run a task stays so, and a record of it is refused. JOB2 may\n"
+      "be JOB. show JOB --new JOB2 compares both.\n" },
 };
 
 enum { COMMANDS = sizeof commands / sizeof commands[0] };
@@ -211,6 +221,10 @@ static const char **file_of(struct options *o, int option)
         return &o->plan;
     case TIMES:
         return &o->times;
+    case LOG:
+        return &o->log;
+    case NEW:
+        return &o->new_job;
     default:
         return NULL;
     }
@@ -248,10 +262,10 @@ static int take_path(const struct command *c, struct options *o, const char *wor
 
 static int dashes(const struct options *o)
 {
-    const char *const named[] = { o->job, o->plan, o->times };
+    const char *const named[] = { o->job, o->plan, o->times, o->log, o->new_job };
     int count = 0;
 
-    for (int i = 0; i < 3; i++)
+    for (size_t i = 0; i < sizeof named / sizeof named[0]; i++)
         count += named[i] && is_dash(named[i]);
     for (int i = 0; i < o->paths; i++)
         count += is_dash(o->path[i]);
@@ -276,6 +290,8 @@ static int check_options(const struct command *c, struct options *o)
         return wrong_usage(c, "-o FILE is missing", NULL);
     if (o->times && o->paths != 2)
         return wrong_usage(c, "--times goes with a job and a plan", NULL);
+    if (o->log && o->paths != 1)
+        return wrong_usage(c, "--log goes with a job alone", NULL);
     if (dashes(o) > 1)
         return wrong_usage(c, "standard input can be only one of the files", NULL);
     if (!o->output)

@@ -1,8 +1,10 @@
-/* pack: a job, a plan, one more task or a list of times from its text form (TEXT.md). */
+/* pack: a job, a plan, one more task, a list of times or a log from its text form
+ * (TEXT.md). */
 #include "pack.h"
 
 #include "commands.h"
 #include "layout.h"
+#include "log.h"
 #include "new_task.h"
 #include "refusal.h"
 #include "times.h"
@@ -15,7 +17,7 @@ struct job_text {
 };
 
 /* What is packed, and the job, or job and plan, beside it where they are named. */
-enum kind { JOB_TEXT, PLAN_TEXT, TASK_TEXT, TIMES_TEXT };
+enum kind { JOB_TEXT, PLAN_TEXT, TASK_TEXT, TIMES_TEXT, LOG_TEXT };
 
 struct packing {
     enum kind kind;
@@ -164,15 +166,19 @@ static void pack_plan(struct text *t, struct section *file)
 static enum kind take_kind(struct text *t)
 {
     if (!next_line(t))
-        text_fault(t, "expected 'job', 'plan', 'task' or 'times', but the text ends");
+        text_fault(t, "expected 'job', 'plan', 'task', 'times' or 'log', but the text "
+                   "ends");
     else if (took_word(t, "job"))
         return JOB_TEXT;
     else if (took_word(t, "plan"))
         return PLAN_TEXT;
     else if (took_word(t, "times"))
         return TIMES_TEXT;
+    else if (took_word(t, "log"))
+        return LOG_TEXT;
     else if (!took_word(t, "task"))
-        text_fault(t, "expected 'job', 'plan', 'task' or 'times' as the first word");
+        text_fault(t, "expected 'job', 'plan', 'task', 'times' or 'log' as the first "
+                   "word");
     return TASK_TEXT;
 }
 
@@ -182,7 +188,8 @@ static int check_beside(enum kind kind, const struct options *o, const char *nam
     if (kind != TIMES_TEXT && o->plan)
         return failed("'%s' has no times: --plan goes with a list of them", name);
     if (kind == JOB_TEXT && o->job)
-        return failed("'%s' is a job: --job goes with a plan, a task or times", name);
+        return failed("'%s' is a job: --job goes with a plan, a task, times or a log",
+                      name);
     if (kind == TASK_TEXT && !o->job)
         return failed("'%s' describes a task: --job JOB is missing", name);
     if (kind == TIMES_TEXT && !o->job != !o->plan)
@@ -220,6 +227,10 @@ static void pack_text(struct text *t, struct packing *p)
         pack_times(t, &p->file);
         return;
     }
+    if (p->kind == LOG_TEXT) {
+        pack_log(t, &p->file);
+        return;
+    }
     version = take_number(t, "the version");
     section_add(&p->file, version, t->line);
     take_line_end(t);
@@ -244,8 +255,9 @@ static int ask_packed_task(const struct file *job, const struct file *packed)
     return result ? refused_task(result, job, &plan, packed) : 0;
 }
 
-/* The refusal of what was packed, or 0. A plan without its job is not asked about: the
- * judge will be; nor is a list of times without its plan: replay will be. */
+/* The refusal of what was packed, or 0. A plan or log without its job is not asked about:
+ * the judge or 'times' will be; nor is a list of times without its plan: replay will
+ * be. */
 static int ask_packed(const struct packing *p, const struct file *packed)
 {
     const struct file *job = &p->beside.job, *plan = &p->beside.plan;
@@ -260,6 +272,10 @@ static int ask_packed(const struct packing *p, const struct file *packed)
     if (p->kind == TIMES_TEXT) {
         result = p->named ? ask_times(job, plan, packed) : 0;
         return result ? refused_times(result, job, plan, packed) : 0;
+    }
+    if (p->kind == LOG_TEXT) {
+        result = p->named ? ask_log(job, packed) : 0;
+        return result ? refused_log(result, job, packed) : 0;
     }
     result = p->named ? ask_files(job, packed) : 0;
     return result ? refused(result, job, packed) : 0;
@@ -288,7 +304,7 @@ int run_pack(const struct options *o)
 {
     struct file source;
     struct packing packing = { 0 };
-    int status = file_read(&source, o->path[0], TEXT_LIMIT + 1);
+    int status = file_read_on(&source, o->path[0], TEXT_LIMIT + 1, log_goes_on, NULL);
 
     if (status == 0)
         status = check_text_length(&source);

@@ -39,6 +39,15 @@ uint64_t ask_times(const struct file *job, const struct file *plan,
                                               times->data, times->length, &none, 0));
 }
 
+/* A log is read only where there is room for the table. */
+uint64_t ask_log(const struct file *job, const struct file *log)
+{
+    uint8_t table[SEQOPCHI_MAX_RUN_TIMES_BYTES];
+
+    return seqopchi_run_times(job->data, job->length, log->data, log->length,
+                              table, sizeof table);
+}
+
 /* Behind the reading come other refusals: full, no place, stale, short buffer. */
 uint64_t ask_new_task(const struct file *job, const struct file *plan,
                       const struct file *task)
@@ -58,16 +67,16 @@ uint64_t ask_new_task(const struct file *job, const struct file *plan,
 
 /* "byte 12 of 'x.job', the deadline of task 0"; in a packed text the line comes
  * first, except for a count, which stands on none. */
-static void add_place(struct buffer *b, const struct file *f, uint32_t at,
+static void add_place(struct buffer *b, const struct file *f, size_t at,
                       const char *what)
 {
     if (!f->lines) {
-        buffer_print(b, "byte %u of '%s', %s", (unsigned)at, f->name, what);
+        buffer_print(b, "byte %zu of '%s', %s", at, f->name, what);
         return;
     }
     if (at < f->length && f->lines[at / 4] > 0)
         buffer_print(b, "line %u of ", f->lines[at / 4]);
-    buffer_print(b, "'%s', %s (byte %u when packed)", f->name, what, (unsigned)at);
+    buffer_print(b, "'%s', %s (byte %zu when packed)", f->name, what, at);
 }
 
 static void add_limits(struct buffer *b, const struct field *field)
@@ -82,7 +91,7 @@ static void add_limits(struct buffer *b, const struct field *field)
 }
 
 /* Reached by the second link at the soonest. */
-static void add_link_order(struct buffer *b, const struct file *job, uint32_t at)
+static void add_link_order(struct buffer *b, const struct file *job, size_t at)
 {
     uint32_t number = (uint32_t)((at - link_at(job, 0)) / 12);
     struct link link = job_link(job, number), before = job_link(job, number - 1);
@@ -97,7 +106,7 @@ static void add_link_order(struct buffer *b, const struct file *job, uint32_t at
 
 /* The same in a description, whose links all go to the new task. */
 static void add_new_link_order(struct buffer *b, const struct file *job,
-                               const struct file *task, uint32_t at)
+                               const struct file *task, size_t at)
 {
     char what[40];
 
@@ -107,20 +116,20 @@ static void add_new_link_order(struct buffer *b, const struct file *job,
                  (unsigned)number_at(task, at), (unsigned)number_at(task, at - 8));
 }
 
-/* What a call was given; plan, task and times are null where there is none. */
+/* What a call was given; all but the job are null where there is none. */
 struct given {
-    const struct file *job, *plan, *task, *times;
+    const struct file *job, *plan, *task, *times, *log;
 };
 
 /* Whether a booking was given to ask, for which its place is a tail. */
-static bool is_place(const struct given *g, const struct file *f, uint32_t at)
+static bool is_place(const struct given *g, const struct file *f, size_t at)
 {
     return f == g->task && at == description_end(g->job, f) && f->length == at + 16;
 }
 
 /* Of the texts only a list of times can have a line too many, or one too few. */
 static void add_tail(struct buffer *b, const struct given *g, const struct file *f,
-                     uint32_t at)
+                     size_t at)
 {
     uint32_t tasks = job_tasks(g->job);
     char what[32];
@@ -134,34 +143,36 @@ static void add_tail(struct buffer *b, const struct given *g, const struct file 
         buffer_print(b, ", is none of the job, whose last task is %u",
                      (unsigned)tasks - 1);
     } else {
-        buffer_print(b, "byte %u of '%s' follows the last section, where the file "
-                     "must end", (unsigned)at, f->name);
+        buffer_print(b, "byte %zu of '%s' follows the last section, where the file "
+                     "must end", at, f->name);
     }
 }
 
-static void add_short(struct buffer *b, const struct file *f, uint32_t at,
+static void add_short(struct buffer *b, const struct file *f, size_t at,
                       const char *what)
 {
     if (f->lines)
-        buffer_print(b, "'%s' ends before %s (byte %u when packed)", f->name, what,
-                     (unsigned)at);
+        buffer_print(b, "'%s' ends before %s (byte %zu when packed)", f->name, what,
+                     at);
     else
-        buffer_print(b, "'%s' has fewer than 4 bytes left at byte %u, for %s",
-                     f->name, (unsigned)at, what);
+        buffer_print(b, "'%s' has fewer than 4 bytes left at byte %zu, for %s",
+                     f->name, at, what);
 }
 
-static struct field field_at(const struct given *g, const struct file *f, uint32_t at)
+static struct field field_at(const struct given *g, const struct file *f, size_t at)
 {
     if (f == g->task)
         return new_task_field(g->job, f, at);
     if (f == g->times)
         return times_field(g->job, g->plan, at);
+    if (f == g->log)
+        return log_field(g->job, f, at);
     return f == g->job ? job_field(f, at) : plan_field(g->job, at);
 }
 
 /* Of a number that is not within its limits, or a node that cannot run the task. */
 static void add_value(struct buffer *b, unsigned number, const struct given *g,
-                      const struct file *f, uint32_t at)
+                      const struct file *f, size_t at)
 {
     struct field field = field_at(g, f, at);
 
@@ -171,30 +182,51 @@ static void add_value(struct buffer *b, unsigned number, const struct given *g,
     }
     add_place(b, f, at, field.name);
     buffer_print(b, ", is %u", (unsigned)number_at(f, at));
-    if (number == SEQOPCHI_REFUSED_UNABLE)
-        buffer_print(b, ", a node that cannot run the task (run time 0)");
-    else
+    if (number != SEQOPCHI_REFUSED_UNABLE)
         add_limits(b, &field);
+    else if (f == g->log)
+        buffer_print(b, ", for which the job lists no run time of that task");
+    else
+        buffer_print(b, ", a node that cannot run the task (run time 0)");
     if (f == g->times)
         buffer_print(b, ", its listed run time");
 }
 
-/* The library reads job, plan, and task or times in turn. */
+/* The library reads job, plan, and task or times in turn, or job and log. */
 static const struct file *faulty(const struct given *g)
 {
     const struct file *third = g->task ? g->task : g->times;
 
-    if (!g->plan || ask_job(g->job))
+    if ((!g->plan && !g->log) || ask_job(g->job))
         return g->job;
+    if (g->log)
+        return g->log;
     return !third || ask_files(g->job, g->plan) ? g->plan : third;
+}
+
+/* Where in the file at fault. A place in a log is told modulo 2 to the 32nd: of those
+ * that may be meant it is the first up to which the log is refused alike. */
+static size_t fault_at(const struct given *g, const struct file *f, uint64_t result)
+{
+    const uint64_t step = (uint64_t)UINT32_MAX + 1;
+    struct file head = *f;
+    uint64_t at = seqopchi_first(result);
+
+    while (f == g->log && at + step <= f->length) {
+        head.length = (size_t)at + 4;
+        if (ask_log(g->job, &head) == result)
+            break;
+        at += step;
+    }
+    return (size_t)at;
 }
 
 /* 1 to 7: the first place is a byte offset in the file at fault. */
 static void add_fault(struct buffer *b, uint64_t result, const struct given *g)
 {
-    uint32_t at = seqopchi_first(result);
     unsigned number = seqopchi_number(result);
     const struct file *f = faulty(g);
+    size_t at = fault_at(g, f, result);
 
     if (number == SEQOPCHI_REFUSED_TAIL)
         add_tail(b, g, f, at);
@@ -319,7 +351,7 @@ static void add_refusal(struct buffer *b, uint64_t result, const struct given *g
 
 void verdict_text(struct buffer *b, const struct file *job, const struct file *plan)
 {
-    struct given given = { job, plan, NULL, NULL };
+    struct given given = { .job = job, .plan = plan };
     uint64_t result = seqopchi_judge(job->data, job->length, plan->data, plan->length);
 
     if (result)
@@ -341,7 +373,7 @@ static int tell_refusal(uint64_t result, const struct given *g)
 int refused_task(uint64_t result, const struct file *job, const struct file *plan,
                  const struct file *task)
 {
-    struct given given = { job, plan, task, NULL };
+    struct given given = { .job = job, .plan = plan, .task = task };
 
     return tell_refusal(result, &given);
 }
@@ -349,7 +381,14 @@ int refused_task(uint64_t result, const struct file *job, const struct file *pla
 int refused_times(uint64_t result, const struct file *job, const struct file *plan,
                   const struct file *times)
 {
-    struct given given = { job, plan, NULL, times };
+    struct given given = { .job = job, .plan = plan, .times = times };
+
+    return tell_refusal(result, &given);
+}
+
+int refused_log(uint64_t result, const struct file *job, const struct file *log)
+{
+    struct given given = { .job = job, .log = log };
 
     return tell_refusal(result, &given);
 }

@@ -17,6 +17,9 @@ uint64_t ask_new_task(const struct file *job, const struct file *plan,
 uint64_t ask_times(const struct file *job, const struct file *plan,
                    const struct file *times);
 
+/* Whether job and log do. */
+uint64_t ask_log(const struct file *job, const struct file *log);
+
 /* The judge's answer to a plan, "passed" or "refused 4 (value): byte 12 of ..", without
  * a line end. */
 void verdict_text(struct buffer *b, const struct file *job, const struct file *plan);
@@ -32,5 +35,8 @@ int refused_task(uint64_t result, const struct file *job, const struct file *pla
 /* The same where a list of times was given too, or null. */
 int refused_times(uint64_t result, const struct file *job, const struct file *plan,
                   const struct file *times);
+
+/* The same where a job and a log were given. */
+int refused_log(uint64_t result, const struct file *job, const struct file *log);
 
 #endif

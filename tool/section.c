@@ -22,12 +22,14 @@ void section_append(struct section *to, const struct section *from)
     section_join(to, from);
 }
 
+/* The text of an empty log stands for no bytes, and data is never null. */
 struct file section_file(const struct section *s, const char *name)
 {
+    static uint8_t nothing;
     struct file packed;
 
     packed.name = name;
-    packed.data = (uint8_t *)s->numbers.data;
+    packed.data = s->numbers.data ? (uint8_t *)s->numbers.data : &nothing;
     packed.length = s->numbers.length;
     packed.lines = (const unsigned *)(const void *)s->lines.data;
     return packed;

@@ -1,6 +1,8 @@
-/* show: a job, and a plan with the judge's answer, as readable text. */
+/* show: a job, also beside a newer one, and a plan with the judge's answer, as readable
+ * text. */
 #include "commands.h"
 
+#include "differences.h"
 #include "groups.h"
 #include "layout.h"
 #include "refusal.h"
@@ -39,7 +41,38 @@ static void add_task(struct buffer *b, const struct file *job, uint32_t task)
         buffer_print(b, "  %7u", (unsigned)job_ready(job, task));
 }
 
-static void add_tasks(struct buffer *b, const struct file *job)
+static void add_run_time(struct buffer *b, const struct file *job, uint32_t task,
+                         uint32_t node)
+{
+    uint32_t run = job_run_time(job, task, node);
+
+    if (run > 0)
+        buffer_print(b, "  %7u", (unsigned)run);
+    else
+        buffer_print(b, "  %7s", "-");
+}
+
+/* Beneath a task, the run times that differ in the newer job; no line if none does. */
+static void add_new_run_times(struct buffer *b, const struct file *job,
+                              const struct file *new_job, uint32_t task)
+{
+    uint32_t nodes = job_nodes(job), done = 0;
+
+    for (uint32_t node = 0; node < nodes; node++) {
+        if (!run_time_differs(job, new_job, task, node))
+            continue;
+        if (done == 0)
+            buffer_print(b, " new%*s", has_ready(job_version(job)) ? 30 : 21, "");
+        buffer_print(b, "%*s", 9 * (int)(node - done), "");
+        add_run_time(b, new_job, task, node);
+        done = node + 1;
+    }
+    if (done > 0)
+        buffer_print(b, "\n");
+}
+
+static void add_tasks(struct buffer *b, const struct file *job,
+                      const struct file *new_job)
 {
     uint32_t nodes = job_nodes(job), tasks = job_tasks(job);
 
@@ -51,15 +84,11 @@ static void add_tasks(struct buffer *b, const struct file *job)
     for (uint32_t task = 0; task < tasks; task++) {
         add_task(b, job, task);
         buffer_print(b, "  %8u           ", (unsigned)job_deadline(job, task));
-        for (uint32_t node = 0; node < nodes; node++) {
-            uint32_t run = job_run_time(job, task, node);
-
-            if (run > 0)
-                buffer_print(b, "  %7u", (unsigned)run);
-            else
-                buffer_print(b, "  %7s", "-");
-        }
+        for (uint32_t node = 0; node < nodes; node++)
+            add_run_time(b, job, task, node);
         buffer_print(b, "\n");
+        if (new_job)
+            add_new_run_times(b, job, new_job, task);
     }
 }
 
@@ -78,14 +107,20 @@ static void add_links(struct buffer *b, const struct file *job)
     }
 }
 
-static void add_job(struct buffer *b, const struct file *job)
+/* The newer job is null where there is none. */
+static void add_job(struct buffer *b, const struct file *job,
+                    const struct file *new_job)
 {
     buffer_print(b, "job: nodes %u, tasks %u, links %u\n",
                  (unsigned)job_nodes(job), (unsigned)job_tasks(job),
                  (unsigned)job_links(job));
     add_nodes(b, job);
-    add_tasks(b, job);
+    add_tasks(b, job, new_job);
     add_links(b, job);
+    if (new_job) {
+        buffer_print(b, "\n");
+        add_differences(b, job, new_job);
+    }
 }
 
 void add_verdict(struct buffer *b, const struct input *in)
@@ -134,21 +169,39 @@ static void add_lanes(struct buffer *b, const struct input *in)
     free(copies);
 }
 
+static void add_plan(struct buffer *b, const struct input *in,
+                     const struct file *new_job)
+{
+    buffer_print(b, "\n");
+    add_verdict(b, in);
+    if (new_job) {
+        buffer_print(b, "the same plan for the new job: ");
+        verdict_text(b, new_job, &in->plan);
+        buffer_print(b, "\n");
+    }
+    add_places(b, in);
+    add_lanes(b, in);
+}
+
 int run_show(const struct options *o)
 {
-    struct input in;
+    struct options second = { .path = { o->new_job }, .paths = 1 };
+    struct input in, newer = { .planned = false };
     struct buffer text = { NULL, 0, 0 };
+    const struct file *new_job = o->new_job ? &newer.job : NULL;
     int status = read_readable(&in, o);
 
     if (status)
         return status;
-    add_job(&text, &in.job);
-    if (in.planned) {
-        buffer_print(&text, "\n");
-        add_verdict(&text, &in);
-        add_places(&text, &in);
-        add_lanes(&text, &in);
+    if (new_job)
+        status = read_readable(&newer, &second);
+    if (status == 0) {
+        add_job(&text, &in.job, new_job);
+        if (in.planned)
+            add_plan(&text, &in, new_job);
+        free_input(&newer);
+        status = finish_output(o, &text);
     }
     free_input(&in);
-    return finish_output(o, &text);
+    return status;
 }

@@ -5,7 +5,7 @@
 
 /* No text holds a zero byte. Each packed form that reads well does, since its numbers
  * stay below 2 to the 24th. */
-static bool is_packed(const struct file *f)
+bool is_packed(const struct file *f)
 {
     return f->length > 0 && memchr(f->data, 0, f->length);
 }

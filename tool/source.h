@@ -14,6 +14,7 @@ struct source {
 
 /* Reads the file: 0, or 2 after a message. */
 int source_read(struct source *s, const char *path);
+bool is_packed(const struct file *f); /* what is not is a text */
 
 /* Of a text: begins with its first word, which is this one. What follows is packed into
  * s->packed, and source_packed then gives 0, or 2 after a message. */

@@ -95,6 +95,7 @@ lines() { printf '%s\n' "$@"; }
 . "$home/tool/test_trace.sh"
 . "$home/tool/test_times.sh"
 . "$home/tool/test_trial.sh"
+. "$home/tool/test_log.sh"
 
 # --- good files -------------------------------------------------------------------
 
@@ -543,7 +544,7 @@ turn=0
 damaged_pair() { # damaged_pair JOB PLAN COUNT
     local words
     for ((i = 0; i < $3; i++)); do
-        case $((turn++ % 14)) in
+        case $((turn++ % 16)) in
         0) words=(judge "$1" "$2") ;;
         1) words=(show "$1" "$2") ;;
         2) words=(plan "$1" -o d.out) ;;
@@ -558,6 +559,8 @@ damaged_pair() { # damaged_pair JOB PLAN COUNT
         11) words=(replay "$1" "$2" --times d.times --lose 1@5) ;;
         12) words=(chart "$1" "$2" --times d.times -o d.out) ;;
         13) words=(trial "$1" "$2") ;;
+        14) words=(times "$1" d.log -o d.out) ;;
+        15) words=(show j p --new "$1") ;;
         esac
         [[ ! -e d.out ]] || rm d.out
         run "${words[@]}"
@@ -579,6 +582,7 @@ damage_tests() {
     task_text 'task deadline 30 run 2 2 2' 'link from 1 delay 1'
     good pack n.txt --job j -o d.task
     numbers d.times 3 4 2 1
+    numbers d.log 1 2 300 0 0 5
     damaged_job j p 3
     sed -i 's/^task/task ready 5/' n.txt
     good pack n.txt --job r -o d.task
@@ -589,6 +593,7 @@ damage_tests() {
     damaged_job g r.plan 5
     good pack "$home/examples/one-more-fit.txt" --job o.job -o d.task
     cp friday.times d.times
+    cp friday.log d.log
     damaged_plan o.job o.plan
 }
 
@@ -697,14 +702,14 @@ usage_tests() {
     wrong "there is no option '-x'" list -x j
     wrong 'standard input can be only one' judge - -
     wrong 'standard input can be only one' pack - --job - -o x
-    wrong '--job goes with a plan, a task or times' pack "$home/examples/sample.txt" --job j -o x
+    wrong '--job goes with a plan, a task, times or a log' pack "$home/examples/sample.txt" --job j -o x
     for loss in '' 0 @ 0@ @3 0@3x 0@-1 ' 0@3' 0@3@4 4294967296@0 0@4294967296; do
         wrong 'expected GROUP@TICK' replay j p --lose "$loss"
     done
     good --help
     good --version
-    check 'version' is out 'seqopchi 1.7, for job files of versions 1 to 4 and plan files of version 1'
-    for command in plan judge trial replay list show trace pack unpack chart ask commit; do
+    check 'version' is out 'seqopchi 1.8, for job files of versions 1 to 4 and plan files of version 1'
+    for command in plan judge trial replay list show trace pack unpack chart ask commit times; do
         check "help lists $command" has <("$tool" --help) "  $command "
         good "$command" --help
         check "usage of $command" has out "Usage: seqopchi $command "
@@ -812,8 +817,8 @@ week_step() {
 
 for group in sample round_trip example job_fault plan_fault rule ready ready_chart ready_file ready_text \
     send send_chart send_file send_text group group_chart group_file group_text order ask commit stale full task_fault task_file task_text \
-    trace trace_file trial trial_chart trial_file times times_fault times_chart times_text \
-    usage ask_usage trace_usage trial_usage times_usage input output commit_output week demo; do
+    trace trace_file trial trial_chart trial_file times times_fault times_chart times_text log log_fault show_new log_text \
+    usage ask_usage trace_usage trial_usage times_usage log_usage input output commit_output week demo; do
     "${group}_tests"
 done
 ASAN_OPTIONS+=:detect_leaks=0 # half the time; leaks were looked for up to here
@@ -823,5 +828,6 @@ task_damage_tests
 trace_damage_tests
 trial_damage_tests
 times_damage_tests
+log_damage_tests
 echo "tool: $passed passed, $failed failed"
 [[ $failed -eq 0 ]]

@@ -361,7 +361,7 @@ times_wrong_tests() {
     times_wrong "3: expected the ticks that the backup took, found '-1'" times "$first" 'task 1 primary 3 backup -1'
     times_wrong "4: expected the end of the line, found '3'" times "$first" '' 'task 1 primary 3 backup 3 3'
     lines 'plot 1' >t.txt
-    wrong "'t.txt', line 1: expected 'job', 'plan', 'task' or 'times' as the first word" pack t.txt -o none.times
+    wrong "'t.txt', line 1: expected 'job', 'plan', 'task', 'times' or 'log' as the first word" pack t.txt -o none.times
 }
 
 # --- usage ------------------------------------------------------------------------

@@ -12,7 +12,7 @@ struct word {
 
 int check_text_length(const struct file *f)
 {
-    if (f->length <= TEXT_LIMIT)
+    if (f->length <= TEXT_LIMIT || begins_with(f, "log"))
         return 0;
     return failed("'%s' is longer than %d bytes", f->name, TEXT_LIMIT);
 }
@@ -120,6 +120,13 @@ bool took_word(struct text *t, const char *word)
         return false;
     t->at += found.length;
     return true;
+}
+
+bool begins_with(const struct file *f, const char *word)
+{
+    struct text t = text_of(f);
+
+    return next_line(&t) && took_word(&t, word);
 }
 
 void take_word(struct text *t, const char *word)

@@ -13,9 +13,11 @@ struct text {
 
 enum { TEXT_LIMIT = 1 << 20 }; /* some twenty times the longest job's text */
 
-/* Whether a file is short enough for a text: 0, or 2 after a message. */
+/* Whether a file is short enough for a text: 0, or 2 after a message. That of a log may
+ * have any length. */
 int check_text_length(const struct file *f);
 struct text text_of(const struct file *f);
+bool begins_with(const struct file *f, const char *word); /* as its first word */
 
 /* Goes to the next line that holds a word; false at the end of the text. */
 bool next_line(struct text *t);

@@ -1,8 +1,9 @@
-/* unpack: the text form of a job, of a plan behind its job, or of one more task or a
- * list of times behind both (TEXT.md). */
+/* unpack: the text form of a job, of a plan or log behind its job, or of one more task or
+ * a list of times behind job and plan (TEXT.md). */
 #include "commands.h"
 
 #include "layout.h"
+#include "log.h"
 #include "refusal.h"
 
 /* The entry of a task, which begins at that byte of f. */
@@ -126,6 +127,42 @@ static int unpack_times(const struct options *o)
     return status;
 }
 
+static void add_log_text(struct buffer *b, const struct file *log)
+{
+    size_t records = log_records(log);
+
+    buffer_print(b, "log\n");
+    for (size_t k = 0; k < records; k++) {
+        struct record r = log_record(log, k);
+
+        buffer_print(b, "task %u node %u took %u\n", (unsigned)r.task,
+                     (unsigned)r.node, (unsigned)r.ticks);
+    }
+}
+
+static int unpack_log(const struct options *o)
+{
+    struct input in;
+    struct source log;
+    struct buffer text = { NULL, 0, 0 };
+    int status = read_input(&in, o);
+    uint64_t result;
+
+    if (status)
+        return status;
+    status = log_read(&log, o->log, &in.job);
+    result = status ? 0 : ask_log(&in.job, &log.file);
+    if (result) {
+        status = refused_log(result, &in.job, &log.file);
+    } else if (status == 0) {
+        add_log_text(&text, &log.file);
+        status = finish_output(o, &text);
+    }
+    source_free(&log);
+    free_input(&in);
+    return status;
+}
+
 static int unpack_new_task(const struct options *o)
 {
     struct request r;
@@ -156,6 +193,8 @@ int run_unpack(const struct options *o)
         return unpack_new_task(o);
     if (o->times)
         return unpack_times(o);
+    if (o->log)
+        return unpack_log(o);
     status = read_readable(&in, o);
     if (status)
         return status;

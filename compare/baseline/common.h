@@ -1,6 +1,6 @@
 /* What both baselines share: types, reading, the rules, the judge, writing, and the parts of ask,
-   commit, fault sets and trial that have no other way. Each file that includes this uses all of
-   it. */
+   commit, fault sets, trial and run times that have no other way. Each file that includes this uses
+   all of it. */
 
 #ifndef BASELINE_COMMON_H
 #define BASELINE_COMMON_H
@@ -44,9 +44,10 @@ struct copy { uint32_t node, start, finish, sent; };
 
 struct layout { struct copy primary[SLOTS], backup[SLOTS]; };
 
+/* An offset in a log may be longer than the first place can say. */
 static uint64_t refuse(enum refusal number, uint64_t first, uint64_t second)
 {
-    return (uint64_t)number | first << 8 | second << 40;
+    return (uint64_t)number | (first & UINT32_MAX) << 8 | second << 40;
 }
 
 /* Reading. Each reader answers 0 or the refusal. */
@@ -59,13 +60,16 @@ static struct file open_bytes(const uint8_t *bytes, size_t length)
     return file;
 }
 
+static inline uint32_t number_at(const uint8_t *at)
+{
+    return (uint32_t)at[0] | (uint32_t)at[1] << 8 | (uint32_t)at[2] << 16 | (uint32_t)at[3] << 24;
+}
+
 static uint64_t read_number(struct file *file, uint32_t *number)
 {
-    const uint8_t *at = file->bytes + file->offset;
     if (file->length - file->offset < 4)
         return refuse(SHORT, file->offset, 0);
-    *number = (uint32_t)at[0] | (uint32_t)at[1] << 8 | (uint32_t)at[2] << 16
-            | (uint32_t)at[3] << 24;
+    *number = number_at(file->bytes + file->offset);
     file->offset += 4;
     return 0;
 }
@@ -426,6 +430,13 @@ static uint8_t *put_next(uint8_t *at, uint32_t number)
     return at + 4;
 }
 
+static uint8_t *put_row(const struct job *job, uint32_t task, uint8_t *out)
+{
+    for (uint32_t node = 0; node < job->nodes; node++)
+        out = put_next(out, job->run[task][node]);
+    return out;
+}
+
 static void put_job(const struct job *job, uint8_t *out)
 {
     out = put_next(put_next(out, job->version), job->nodes);
@@ -440,9 +451,7 @@ static void put_job(const struct job *job, uint8_t *out)
     for (uint32_t task = 0; task < job->tasks; task++) {
         if (job->version >= 2)
             out = put_next(out, job->ready[task]);
-        out = put_next(out, job->deadline[task]);
-        for (uint32_t node = 0; node < job->nodes; node++)
-            out = put_next(out, job->run[task][node]);
+        out = put_row(job, task, put_next(out, job->deadline[task]));
     }
     out = put_next(out, job->links);
     for (uint32_t i = 0; i < job->links; i++) {
@@ -680,6 +689,60 @@ static void lose_before_finish(struct run *run, const struct copy *copy)
     run->moment = loss.moment;
 }
 
+/* Run times from the last runs (request (x)). */
+
+/* So many of the newest records count. */
+enum { WINDOW = 256, RECORD_BYTES = 12 };
+
+struct record { uint32_t task, node, ticks; };
+
+/* That the node can run the task is asked before the ticks are read. */
+static inline uint64_t read_record(struct file *log, const struct job *job, struct record *record)
+{
+    uint64_t refused = read_within(log, 0, job->tasks - 1, VALUE, &record->task);
+    if (!refused)
+        refused = read_within(log, 0, job->nodes - 1, VALUE, &record->node);
+    if (!refused && job->run[record->task][record->node] == 0)
+        refused = refuse(UNABLE, log->offset - 4, 0);
+    if (!refused)
+        refused = read_within(log, 1, MAX_TIME, VALUE, &record->ticks);
+    return refused;
+}
+
+/* Reads a log and gives the job the run times that it has; writes a job as it was read but for its
+   run times: each baseline has its own way. */
+static uint64_t renew_times(struct file log, struct job *job);
+static void put_renewed(const struct job *job, struct file file, uint8_t *out);
+
+/* The job, then 17, then the log. */
+static uint64_t run_times(struct file job_file, struct file log, uint8_t *out, size_t out_length)
+{
+    struct job job;
+    uint64_t refused = read_job(job_file, &job);
+    if (!refused && out_length < 4 * (size_t)job.tasks * job.nodes)
+        refused = refuse(SHORT_BUFFER, 4 * job.tasks * job.nodes, 0);
+    if (!refused)
+        refused = renew_times(log, &job);
+    if (refused)
+        return refused;
+    for (uint32_t task = 0; task < job.tasks; task++)
+        out = put_row(&job, task, out);
+    return 0;
+}
+
+static uint64_t renew_job(struct file job_file, struct file log, uint8_t *out, size_t out_length)
+{
+    struct job job;
+    uint64_t refused = read_job(job_file, &job);
+    if (!refused && out_length < job_file.length)
+        refused = refuse(SHORT_BUFFER, job_file.length, 0);
+    if (!refused)
+        refused = renew_times(log, &job);
+    if (!refused)
+        put_renewed(&job, job_file, out);
+    return refused;
+}
+
 /* The C interface of one side, over its own `replay`, `ask`, `commit` and `trial`; its planner has
    a function of its own. */
 #define EXPORT(side)                                                                              \
@@ -687,7 +750,8 @@ static void lose_before_finish(struct run *run, const struct copy *copy)
     EXPORT_REPLAY_TIMES(side)                                                                     \
     EXPORT_ASK_AND_COMMIT(side)                                                                   \
     EXPORT_FAULT_SETS(side)                                                                       \
-    EXPORT_TRIAL(side)
+    EXPORT_TRIAL(side)                                                                            \
+    EXPORT_RUN_TIMES(side)
 
 #define EXPORT_JUDGE_AND_REPLAY(side)                                                             \
     uint64_t side##_judge(const uint8_t *job, size_t job_length, const uint8_t *plan,             \
@@ -766,6 +830,20 @@ static void lose_before_finish(struct run *run, const struct copy *copy)
                           size_t plan_length)                                                     \
     {                                                                                             \
         return trial(open_bytes(job, job_length), open_bytes(plan, plan_length));                 \
+    }
+
+#define EXPORT_RUN_TIMES(side)                                                                    \
+    uint64_t side##_run_times(const uint8_t *job, size_t job_length, const uint8_t *log,          \
+                              size_t log_length, uint8_t *out, size_t out_length)                 \
+    {                                                                                             \
+        return run_times(open_bytes(job, job_length), open_bytes(log, log_length), out,           \
+                         out_length);                                                             \
+    }                                                                                             \
+    uint64_t side##_renew_job(const uint8_t *job, size_t job_length, const uint8_t *log,          \
+                              size_t log_length, uint8_t *out, size_t out_length)                 \
+    {                                                                                             \
+        return renew_job(open_bytes(job, job_length), open_bytes(log, log_length), out,           \
+                         out_length);                                                             \
     }
 
 #endif

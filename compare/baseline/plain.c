@@ -314,4 +314,34 @@ static uint64_t trial(struct file job, struct file plan)
     return 0;
 }
 
+/* Run times from the last runs. */
+
+/* The whole log for its faults, then the newest records once more. */
+static uint64_t renew_times(struct file log, struct job *job)
+{
+    uint32_t largest[MAX_TASKS][MAX_NODES] = { { 0 } };
+    struct record record;
+    uint64_t refused = 0;
+    while (!refused && log.offset < log.length)
+        refused = read_record(&log, job, &record);
+    if (refused)
+        return refused;
+    log.offset = log.length > WINDOW * RECORD_BYTES ? log.length - WINDOW * RECORD_BYTES : 0;
+    while (log.offset < log.length && !read_record(&log, job, &record)) {
+        uint32_t *seen = &largest[record.task][record.node];
+        *seen = later(*seen, record.ticks);
+    }
+    for (uint32_t task = 0; task < job->tasks; task++)
+        for (uint32_t node = 0; node < job->nodes; node++)
+            if (largest[task][node])
+                job->run[task][node] = largest[task][node];
+    return 0;
+}
+
+static void put_renewed(const struct job *job, struct file file, uint8_t *out)
+{
+    (void)file;
+    put_job(job, out);
+}
+
 EXPORT(plain)

@@ -1,11 +1,12 @@
-//! Judge, planner, replay, ask, commit, fault sets and trial on byte buffers, as the console calls
-//! them.
+//! Judge, planner, replay, ask, commit, fault sets, trial and run times on byte buffers, as the
+//! console calls them.
 
 use crate::asking;
 use crate::bookings::{read_booking, read_description};
 use crate::every_moment;
 use crate::fault_sets;
 use crate::files::{read_job, read_plan, row_numbers, write_job, write_plan, Job, Plan};
+use crate::logs::{read_log, renewed, run_times as times_of, write_table};
 use crate::planner;
 use crate::refusal::{code_of, Refusal, NO, NO_SUCH_NODE, SHORT_BUFFER};
 use crate::replay::{self, Loss};
@@ -19,6 +20,7 @@ type Replay = fn(&[u8], &[u8], Option<Loss>, &mut [u8]) -> u64;
 type ReplayTimes = fn(&[u8], &[u8], Option<Loss>, &[u8], &mut [u8]) -> u64;
 type Ask = fn(&[u8], &[u8], &[u8], &mut Places) -> u64;
 type Commit = fn(&[u8], &[u8], &[u8], &mut [u8], &mut [u8]) -> u64;
+type FromLog = fn(&[u8], &[u8], &mut [u8]) -> u64;
 
 /// One implementation of the console's functions. No loss is a case of its own.
 #[derive(Clone, Copy)]
@@ -37,11 +39,26 @@ pub struct Console {
     pub fault_sets: fn(&[u8], &[u8], &mut [u8]) -> u64,
     /// Job and plan; yes is 0.
     pub trial: fn(&[u8], &[u8]) -> u64,
+    /// Job and log; the table.
+    pub run_times: FromLog,
+    /// Job and log; the job with that table.
+    pub renew_job: FromLog,
 }
 
 /// The implementation of this package.
-pub const SECOND: Console =
-    Console { name: "second", judge, plan, replay, replay_times, ask, commit, fault_sets, trial };
+pub const SECOND: Console = Console {
+    name: "second",
+    judge,
+    plan,
+    replay,
+    replay_times,
+    ask,
+    commit,
+    fault_sets,
+    trial,
+    run_times,
+    renew_job,
+};
 
 pub fn plan_bytes(tasks: usize) -> usize {
     8 + 16 * tasks
@@ -53,6 +70,10 @@ pub fn replay_bytes(tasks: usize) -> usize {
 
 pub fn sets_bytes(tasks: usize) -> usize {
     4 * tasks
+}
+
+pub fn table_bytes(nodes: usize, tasks: usize) -> usize {
+    4 * nodes * tasks
 }
 
 fn judge(job: &[u8], plan: &[u8]) -> u64 {
@@ -168,6 +189,31 @@ fn try_trial(job: &[u8], plan: &[u8]) -> Result<bool, Refusal> {
     let job = read_job(job)?;
     let plan = read_plan(&job, plan)?;
     Ok(every_moment::says_yes(&job, &plan))
+}
+
+fn run_times(job: &[u8], log: &[u8], out: &mut [u8]) -> u64 {
+    code_of(try_run_times(job, log, out))
+}
+
+/// The log is read after 17.
+fn try_run_times(job: &[u8], log: &[u8], out: &mut [u8]) -> Result<(), Refusal> {
+    let job = read_job(job)?;
+    room_for(table_bytes(job.nodes.len(), job.tasks.len()), out)?;
+    let log = read_log(&job, log)?;
+    put(&write_table(&times_of(&job, &log)), out);
+    Ok(())
+}
+
+fn renew_job(job: &[u8], log: &[u8], out: &mut [u8]) -> u64 {
+    code_of(try_renew_job(job, log, out))
+}
+
+fn try_renew_job(bytes: &[u8], log: &[u8], out: &mut [u8]) -> Result<(), Refusal> {
+    let job = read_job(bytes)?;
+    room_for(bytes.len(), out)?;
+    let log = read_log(&job, log)?;
+    put(&write_job(&renewed(&job, &times_of(&job, &log))), out);
+    Ok(())
 }
 
 fn room_for(needed: usize, out: &[u8]) -> Result<(), Refusal> {

@@ -165,8 +165,12 @@ impl Cursor<'_> {
         Ok(values)
     }
 
+    pub fn is_at_end(&self) -> bool {
+        self.offset == self.bytes.len()
+    }
+
     pub fn end(&self) -> Result<(), Refusal> {
-        if self.offset < self.bytes.len() {
+        if !self.is_at_end() {
             return self.refuse(TAIL, self.offset);
         }
         Ok(())
@@ -238,15 +242,20 @@ pub fn read_row(file: &mut Cursor, task: &Task) -> Result<Row, Refusal> {
     Ok(Row { primary, backup })
 }
 
-/// That the node can run the task is asked before the start is read.
 fn read_place(file: &mut Cursor, task: &Task) -> Result<Place, Refusal> {
+    let node = read_able_node(file, task)?;
+    let start = file.value(0, MAX_TIME)?;
+    Ok(Place { node, start })
+}
+
+/// That the node can run the task is asked before the number behind it is read.
+pub fn read_able_node(file: &mut Cursor, task: &Task) -> Result<usize, Refusal> {
     let offset = file.offset;
     let node = file.value(0, task.run.len() as u64 - 1)? as usize;
     if task.run[node] == 0 {
         return file.refuse(UNABLE, offset);
     }
-    let start = file.value(0, MAX_TIME)?;
-    Ok(Place { node, start })
+    Ok(node)
 }
 
 /// The values that stand in a file of that version.

@@ -8,7 +8,7 @@ macro_rules! c_console {
     (
         $module:ident, $judge:ident, $plan:ident, $replay:ident, $replay_loss:ident,
         $replay_times:ident, $replay_times_loss:ident, $ask:ident, $commit:ident, $fault_sets:ident,
-        $trial:ident
+        $trial:ident, $run_times:ident, $renew_job:ident
     ) => {
         mod $module {
             use super::{Console, Loss, Places};
@@ -86,6 +86,22 @@ macro_rules! c_console {
                     out_len: usize,
                 ) -> u64;
                 fn $trial(job: *const u8, job_len: usize, plan: *const u8, plan_len: usize) -> u64;
+                fn $run_times(
+                    job: *const u8,
+                    job_len: usize,
+                    log: *const u8,
+                    log_len: usize,
+                    out: *mut u8,
+                    out_len: usize,
+                ) -> u64;
+                fn $renew_job(
+                    job: *const u8,
+                    job_len: usize,
+                    log: *const u8,
+                    log_len: usize,
+                    out: *mut u8,
+                    out_len: usize,
+                ) -> u64;
             }
 
             pub const CONSOLE: Console = Console {
@@ -98,6 +114,8 @@ macro_rules! c_console {
                 commit,
                 fault_sets,
                 trial,
+                run_times,
+                renew_job,
             };
 
             // Each slice is live and borrowed for the whole call, and the C side keeps none.
@@ -185,6 +203,18 @@ macro_rules! c_console {
             fn trial(job: &[u8], plan: &[u8]) -> u64 {
                 unsafe { $trial(job.as_ptr(), job.len(), plan.as_ptr(), plan.len()) }
             }
+
+            fn run_times(job: &[u8], log: &[u8], out: &mut [u8]) -> u64 {
+                let (job, job_len) = (job.as_ptr(), job.len());
+                let (log, log_len) = (log.as_ptr(), log.len());
+                unsafe { $run_times(job, job_len, log, log_len, out.as_mut_ptr(), out.len()) }
+            }
+
+            fn renew_job(job: &[u8], log: &[u8], out: &mut [u8]) -> u64 {
+                let (job, job_len) = (job.as_ptr(), job.len());
+                let (log, log_len) = (log.as_ptr(), log.len());
+                unsafe { $renew_job(job, job_len, log, log_len, out.as_mut_ptr(), out.len()) }
+            }
         }
     };
 }
@@ -200,7 +230,9 @@ c_console!(
     seqopchi_ask,
     seqopchi_commit,
     seqopchi_fault_sets,
-    seqopchi_trial
+    seqopchi_trial,
+    seqopchi_run_times,
+    seqopchi_renew_job
 );
 c_console!(
     plain,
@@ -213,7 +245,9 @@ c_console!(
     plain_ask,
     plain_commit,
     plain_fault_sets,
-    plain_trial
+    plain_trial,
+    plain_run_times,
+    plain_renew_job
 );
 c_console!(
     tuned,
@@ -226,7 +260,9 @@ c_console!(
     tuned_ask,
     tuned_commit,
     tuned_fault_sets,
-    tuned_trial
+    tuned_trial,
+    tuned_run_times,
+    tuned_renew_job
 );
 
 /// The library under test.

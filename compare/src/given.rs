@@ -1,6 +1,6 @@
 //! A job, and the calls made on it.
 
-use crate::console::{plan_bytes, replay_bytes, sets_bytes};
+use crate::console::{plan_bytes, replay_bytes, sets_bytes, table_bytes};
 use crate::files::{write_job, Job};
 use crate::random::Random;
 use crate::replay::Loss;
@@ -47,6 +47,14 @@ impl Given {
         Call { function: Function::Trial, job: &self.bytes, plan, room: 0 }
     }
 
+    pub fn run_times<'a>(&'a self, log: &'a [u8], room: usize) -> Call<'a> {
+        Call { function: Function::RunTimes(log), job: &self.bytes, plan: &[], room }
+    }
+
+    pub fn renew_job<'a>(&'a self, log: &'a [u8], room: usize) -> Call<'a> {
+        Call { function: Function::RenewJob(log), job: &self.bytes, plan: &[], room }
+    }
+
     pub fn ask<'a>(&'a self, plan: &'a [u8], task: &'a [u8]) -> Call<'a> {
         Call { function: Function::Ask(task), job: &self.bytes, plan, room: 0 }
     }
@@ -80,6 +88,10 @@ impl Given {
 
     pub fn sets_room(&self) -> usize {
         sets_bytes(self.job.tasks.len())
+    }
+
+    pub fn table_room(&self) -> usize {
+        table_bytes(self.job.nodes.len(), self.job.tasks.len())
     }
 }
 

@@ -1,4 +1,4 @@
-//! A second implementation of document 01 and of requests (i) to (ix) of document 02, and
+//! A second implementation of document 01 and of requests (i) to (x) of document 02, and
 //! what compares the proved library with it.
 
 pub mod asked_samples;
@@ -29,15 +29,20 @@ pub mod given;
 pub mod group_samples;
 pub mod held;
 pub mod jobs;
+pub mod log_samples;
+pub mod logged;
+pub mod logs;
 pub mod losses;
 pub mod moment_calls;
 pub mod moment_samples;
 pub mod order_of_time;
 pub mod order_samples;
+pub mod other_windows;
 pub mod patterns;
 pub mod planner;
 pub mod plans;
 pub mod random;
+pub mod random_logs;
 pub mod refusal;
 pub mod replay;
 pub mod rounds;

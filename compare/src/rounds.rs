@@ -319,8 +319,8 @@ fn try_every_length(trial: &mut Trial, given: &Given, plan: &[u8]) -> Result<(),
     Ok(())
 }
 
-/// The functions of a round on any two files. The list of actual times is good for any plan of
-/// that length that reads well.
+/// The functions of a round on any two files, and run times. The list of actual times is good for
+/// any plan of that length that reads well. The log has one record, of task 0 on node 1.
 fn try_files(
     trial: &mut Trial,
     random: &mut Random,
@@ -333,10 +333,12 @@ fn try_files(
     let (whole, lossy) = (Function::Replay(None), Function::Replay(loss));
     let times = bytes_of(&vec![1; 2 * (plan.len().saturating_sub(8) / 16)]);
     let timed = [Function::ReplayTimes(None, &times), Function::ReplayTimes(loss, &times)];
+    let log = bytes_of(&[0, 1, 5]);
+    let logged = [Function::RunTimes(&log), Function::RenewJob(&log)];
     let functions =
         [Function::Judge, Function::Trial, Function::Plan, whole, lossy, Function::FaultSets];
     let later = job.first_chunk().is_some_and(|&v| u64::from(u32::from_le_bytes(v)) > NEWEST);
-    for function in functions.into_iter().chain(timed) {
+    for function in functions.into_iter().chain(timed).chain(logged) {
         let code = trial.compare(&Call { function, job, plan, room })?;
         let refused = code == Refusal::at(VERSION, 0).code();
         trial.tally.later_version += u64::from(later && refused);

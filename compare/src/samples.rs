@@ -1,10 +1,11 @@
 //! The samples of document 01, starred or not, sample 8 as request (i) of document 02 changes it;
-//! samples for request (ii), and those for requests (iii) to (ix), which have files of their own.
+//! samples for request (ii), and those for requests (iii) to (x), which have files of their own.
 
 use crate::asked_samples;
 use crate::console::{plan_bytes, replay_bytes, Console};
 use crate::files::{write_job, write_plan, Job, Link, Node, Place, Plan, Row, Task, MAX_TIME};
 use crate::group_samples;
+use crate::log_samples;
 use crate::moment_samples;
 use crate::order_samples;
 use crate::refusal::{
@@ -185,6 +186,8 @@ impl Check<'_> {
             (self.console.replay_times)(file, &plan, lost(3), &[], &mut out),
             (self.console.fault_sets)(file, &plan, &mut out),
             (self.console.trial)(file, &plan),
+            (self.console.run_times)(file, &[], &mut out),
+            (self.console.renew_job)(file, &[], &mut out),
         ];
         for got in results {
             self.expect(sample, got, Err(refusal));
@@ -211,6 +214,7 @@ pub fn run(console: &Console) -> (usize, Vec<String>) {
     order_samples::run(&mut check);
     timed_samples::run(&mut check);
     moment_samples::run(&mut check);
+    log_samples::run(&mut check);
     (check.count, check.faults)
 }
 

@@ -9,6 +9,7 @@ use crate::files::{
     MAX_TIME, READY, SEND, TASKS,
 };
 use crate::foreign::PLAIN;
+use crate::logs::{write_log, Record};
 use crate::random::Random;
 use crate::replay::Loss;
 use crate::time_lists::random_times;
@@ -30,7 +31,12 @@ pub struct PlannedJob {
     pub loss: Loss,
     /// A list of actual times at random.
     pub times: Vec<u8>,
+    /// A log at random.
+    pub log: Vec<u8>,
 }
+
+/// The records of a job's log.
+const RECORDS: usize = 1_000;
 
 /// The first random job of that version and size that is planned.
 pub fn planned(version: u64, nodes: usize, tasks: usize, links: usize) -> PlannedJob {
@@ -44,7 +50,8 @@ pub fn planned(version: u64, nodes: usize, tasks: usize, links: usize) -> Planne
     assert_eq!((PLAIN.judge)(&job, &plan), 0);
     let loss = loss_of_first(&listed, &plan);
     let times = some_times(&listed, &plan);
-    PlannedJob { nodes, tasks, links, job, plan, loss, times }
+    let log = Kind::AnyCell.log(nodes, tasks, RECORDS);
+    PlannedJob { nodes, tasks, links, job, plan, loss, times, log }
 }
 
 /// The group of task 0's primary, lost while that runs: mostly much has to be caught up with.
@@ -80,7 +87,38 @@ pub fn crowded_on(primaries: usize, backups: usize) -> PlannedJob {
     let rows = rows.map(|(primary, backup)| Row { primary, backup }).collect();
     let plan = write_plan(&Plan { rows });
     let (loss, times) = (loss_of_first(&listed, &plan), some_times(&listed, &plan));
-    PlannedJob { nodes, tasks, links, job: write_job(&listed), plan, loss, times }
+    let log = Kind::AnyCell.log(nodes, tasks, RECORDS);
+    PlannedJob { nodes, tasks, links, job: write_job(&listed), plan, loss, times, log }
+}
+
+/// What a log is about.
+#[derive(Clone, Copy)]
+pub enum Kind {
+    /// Any task on any node, any ticks.
+    AnyCell,
+    /// One task on one node, each time a tick less, or a tick more.
+    Falling,
+    Rising,
+    /// One task on eight nodes, any ticks.
+    EightCells,
+}
+
+impl Kind {
+    /// The same log in every run. All nodes can run all tasks.
+    pub fn log(self, nodes: usize, tasks: usize, records: usize) -> Vec<u8> {
+        let random = &mut Random::new(0);
+        let mut record = |at: usize| {
+            let ticks = random.between(1, MAX_TIME);
+            let (task, node) = (random.below(tasks), random.below(nodes));
+            match self {
+                Kind::AnyCell => Record { task, node, ticks },
+                Kind::Falling => Record { task: 0, node: 0, ticks: (records - at) as u64 },
+                Kind::Rising => Record { task: 0, node: 0, ticks: at as u64 + 1 },
+                Kind::EightCells => Record { task: 0, node: node % 8, ticks },
+            }
+        };
+        write_log(&(0..records).map(&mut record).collect::<Vec<_>>())
+    }
 }
 
 /// A planned job, and a task to ask for and to book beside its plan.

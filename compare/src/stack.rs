@@ -2,7 +2,7 @@
 
 use std::ffi::c_void;
 
-use crate::console::{plan_bytes, replay_bytes, sets_bytes, Console};
+use crate::console::{plan_bytes, replay_bytes, sets_bytes, table_bytes, Console};
 use crate::files::NEWEST;
 use crate::sized::{asked, planned};
 
@@ -13,7 +13,7 @@ extern "C" {
     fn stack_used(call: extern "C" fn(*mut c_void), argument: *mut c_void) -> usize;
 }
 
-type Used = [(&'static str, usize); 10];
+type Used = [(&'static str, usize); 12];
 
 /// Each function with the bytes of stack that it uses, in the version that takes most.
 pub fn used(console: &Console) -> Used {
@@ -31,6 +31,8 @@ fn used_in(console: &Console, version: u64) -> Used {
     let mut planned = vec![0; plan_bytes(case.tasks)];
     let mut replayed = vec![0; replay_bytes(case.tasks)];
     let mut sets = vec![0; sets_bytes(case.tasks)];
+    let mut table = vec![0; table_bytes(case.nodes, case.tasks)];
+    let mut renewed = vec![0; job.len()];
     let new = asked(version, 16, 64, 512);
     let (held, held_plan) = (&new.held.job, &new.held.plan);
     let (mut longer, mut booked) = (vec![0; new.rooms.0], vec![0; new.rooms.1]);
@@ -48,6 +50,8 @@ fn used_in(console: &Console, version: u64) -> Used {
         ("commit", measure(&mut commit)),
         ("fault_sets", measure(|| (console.fault_sets)(job, plan, &mut sets))),
         ("trial", measure(|| (console.trial)(job, plan))),
+        ("run_times", measure(|| (console.run_times)(job, &case.log, &mut table))),
+        ("renew_job", measure(|| (console.renew_job)(job, &case.log, &mut renewed))),
     ]
 }
 

@@ -3,13 +3,15 @@
 use std::fmt;
 
 use crate::files::NEWEST;
+use crate::other_windows::READINGS;
+use crate::random_logs::FAULTS as LOG_FAULTS;
 use crate::refusal::{number_of, TOO_SOON, WORDS};
 use crate::time_lists::FAULTS;
 use crate::trial::Function;
 
 /// The columns of results. The last two count again what was asked and committed on a pair that
 /// passes, where the fault, if any, is in the description or the booking.
-const COLUMNS: [&str; 12] = [
+const COLUMNS: [&str; 14] = [
     "judge",
     "plan",
     "replay",
@@ -20,21 +22,25 @@ const COLUMNS: [&str; 12] = [
     "replay_times",
     "times_loss",
     "trial",
+    "run_times",
+    "renew_job",
     "held: ask",
     "held: commit",
 ];
-const HELD_ASK: usize = 10;
-const HELD_COMMIT: usize = 11;
+const HELD_ASK: usize = 12;
+const HELD_COMMIT: usize = 13;
 
-/// The refusals that ask, commit, fault_sets, replays with a list and trial can give, and which of
-/// the first two on a pair that passes.
-const WANTED: [(usize, &[usize]); 8] = [
+/// The refusals that ask, commit, fault_sets, replays with a list, trial, run_times and renew_job
+/// can give, and which of the first two on a pair that passes.
+const WANTED: [(usize, &[usize]); 10] = [
     (4, &[1, 2, 3, 4, 5, 6, 7, 8, 9, 10, 11, 12, 13, 14, 15, 16, 19, 20]),
     (5, &[1, 2, 3, 4, 5, 6, 7, 8, 9, 10, 11, 12, 13, 14, 17, 19, 20, 21]),
     (6, &[1, 2, 3, 4, 5, 6, 7, 17]),
     (7, &[1, 2, 3, 4, 5, 6, 7, 17]),
     (8, &[1, 2, 3, 4, 5, 6, 7, 17, 18]),
     (9, &[1, 2, 3, 4, 5, 6, 7]),
+    (10, &[1, 2, 3, 4, 5, 6, 7, 17]),
+    (11, &[1, 2, 3, 4, 5, 6, 7, 17]),
     (HELD_ASK, &[1, 3, 4, 5, 6, 15, 16, 20]),
     (HELD_COMMIT, &[1, 3, 4, 5, 6, 7, 17, 20, 21]),
 ];
@@ -155,6 +161,27 @@ pub struct Tally {
     pub no_by_later_node: u64,
     pub no_by_deadline: u64,
     pub own_copies: u64,
+    /// By length: none, some, 255, 256, 257, more, and 10,000 or more.
+    pub logs_of: [u64; 7],
+    pub tables_version: [u64; NEWEST as usize],
+    pub tables_below: u64,
+    pub tables_above: u64,
+    pub tables_least: u64,
+    pub tables_most: u64,
+    /// By wrong reading.
+    pub tables_otherwise: [u64; READINGS.len()],
+    pub renewed: u64,
+    pub renewed_planned: u64,
+    pub renewed_otherwise: u64,
+    pub steps: u64,
+    pub steps_lower: u64,
+    pub steps_back: u64,
+    /// By kind of fault.
+    pub logs_refused: [u64; LOG_FAULTS.len()],
+    pub log_faults_first: u64,
+    pub log_faults_last: u64,
+    pub log_faults_left: u64,
+    pub logs_short: u64,
 }
 
 /// Something counted: how often it was met, in words, and how often a run of the default count has
@@ -178,6 +205,8 @@ impl Tally {
             Function::ReplayTimes(None, _) => 7,
             Function::ReplayTimes(Some(_), _) => 8,
             Function::Trial => 9,
+            Function::RunTimes(_) => 10,
+            Function::RenewJob(_) => 11,
         };
         self.results[column][number_of(code)] += 1;
     }
@@ -192,7 +221,7 @@ impl Tally {
         self.results.iter().map(|column| column[number]).sum()
     }
 
-    /// What ask, commit, fault_sets, replays with a list and trial should have given, in words.
+    /// What the functions of `WANTED` should have given, in words.
     pub fn not_given(&self) -> impl Iterator<Item = String> + '_ {
         let all =
             WANTED.iter().flat_map(|&(column, numbers)| numbers.iter().map(move |&n| (column, n)));
@@ -225,6 +254,8 @@ impl Tally {
         let counts = counts.chain(self.order_counts()).chain(self.crowd_counts());
         let counts = counts.chain(self.timed_counts()).chain(self.list_counts());
         let counts = counts.chain(self.trial_counts()).chain(self.moment_counts());
+        let counts = counts.chain(self.log_counts()).chain(self.window_counts());
+        let counts = counts.chain(self.log_fault_counts());
         counts.map(|(met, least, words)| Count { met, words, least })
     }
 
@@ -429,6 +460,73 @@ impl Tally {
             (self.no_by_deadline, 3_500, "trials that say no for one tick after a deadline"),
             (self.yes_at_deadline, 3_500, "trials that say yes with a backup at its deadline"),
             (self.own_copies, 1_200, "plans with a task's own two copies overlapping"),
+        ]
+    }
+
+    /// Request (x): tables, the jobs that they renew, and logs that grow.
+    fn log_counts(&self) -> [(u64, u64, &'static str); 20] {
+        let [none, _, below, just, above, more, many] = self.logs_of;
+        let [v1, v2, v3, v4] = self.tables_version;
+        [
+            (v1, 1_200, "tables of version 1 jobs"),
+            (v2, 1_200, "tables of version 2 jobs"),
+            (v3, 1_200, "tables of version 3 jobs"),
+            (v4, 1_200, "tables of version 4 jobs"),
+            (none, 200, "tables of an empty log"),
+            (below, 300, "tables of 255 records"),
+            (just, 300, "tables of 256 records"),
+            (above, 300, "tables of 257 records"),
+            (above + more + many, 3_000, "tables of logs longer than the window"),
+            (many, 50, "tables of 10,000 records or more"),
+            (self.tables_below, 1_400, "tables with a time below the job's"),
+            (self.tables_above, 4_500, "tables with a time above the job's"),
+            (self.tables_least, 600, "tables with a time of 1 that is not the job's"),
+            (self.tables_most, 1_500, "tables with a time of 1,000,000 that is not the job's"),
+            (self.renewed, 4_500, "renewed jobs that are not the old one"),
+            (self.renewed_planned, 2_300, "such jobs planned"),
+            (self.renewed_otherwise, 2_800, "renewed jobs planned otherwise than the old one"),
+            (self.steps, 75_000, "records by which a log grew"),
+            (self.steps_lower, 8_000, "records that left, another being the largest then"),
+            (self.steps_back, 150, "records that left, the job's time being back then"),
+        ]
+    }
+
+    /// Request (x): where a wrong reading would give another table.
+    fn window_counts(&self) -> [(u64, u64, &'static str); READINGS.len()] {
+        let [shorter, longer, whole, first, before, listed, staying, last, each, by_node] =
+            self.tables_otherwise;
+        [
+            (shorter, 800, "tables that a window of 255 would change"),
+            (longer, 700, "tables that a window of 257 would change"),
+            (whole, 1_700, "tables that the whole log would change"),
+            (first, 2_200, "tables that the first 256 records would change"),
+            (before, 1_900, "tables that the records before the newest would change"),
+            (listed, 1_400, "tables that the job's time as one more would change"),
+            (staying, 1_200, "tables that a largest that left but stays would change"),
+            (last, 3_500, "tables that the last ticks for the largest would change"),
+            (each, 1_700, "tables that a window for each task and node would change"),
+            (by_node, 4_500, "tables that are others node by node"),
+        ]
+    }
+
+    /// Request (x): refusals of a log, and beside it.
+    fn log_fault_counts(&self) -> [(u64, u64, &'static str); 13] {
+        let [cut, between, task, node, unable, unable_first, no_ticks, many_ticks] =
+            self.logs_refused;
+        [
+            (cut, 1_800, "logs refused 1, cut within a number"),
+            (between, 1_800, "logs refused 1, cut between numbers"),
+            (task, 1_800, "logs refused 4 for a task"),
+            (node, 1_800, "logs refused 4 for a node"),
+            (unable, 1_000, "logs refused 7, the ticks being good"),
+            (unable_first, 1_000, "logs refused 7 before bad ticks"),
+            (no_ticks, 1_800, "logs refused 4 for ticks of 0"),
+            (many_ticks, 1_800, "logs refused 4 for more than 1,000,000 ticks"),
+            (self.log_faults_first, 4_500, "logs refused for their oldest record"),
+            (self.log_faults_last, 2_000, "logs refused for their newest record"),
+            (self.log_faults_left, 3_000, "logs refused for a record that counts no more"),
+            (self.logs_refused.iter().sum::<u64>(), 12_000, "logs with a fault refused 17 first"),
+            (self.logs_short, 4_500, "good logs refused 17"),
         ]
     }
 }

@@ -9,7 +9,7 @@ use crate::files::{read_job, read_plan, Plan, TASKS};
 use crate::given::{some_room, Given};
 use crate::losses::{at_every_tick, lost, moments_after, outlive};
 use crate::random::Random;
-use crate::refusal::{describe, number_of, Refusal, NO_SUCH_NODE, SHORT_BUFFER};
+use crate::refusal::{number_of, Refusal, NO_SUCH_NODE, SHORT_BUFFER};
 use crate::replay::Loss;
 use crate::rounds::missing_group;
 use crate::survival::Survival;
@@ -143,14 +143,14 @@ impl Timed<'_> {
         let needed = self.given.replay_room();
         let room = random.pick(&[needed, needed - 1, 0]);
         let loss = self.some_loss(random);
-        expect(trial, &self.replay(loss, &list.bytes, room), list.refusal)?;
+        trial.refuse(&self.replay(loss, &list.bytes, room), list.refusal)?;
         trial.tally.lists_refused[fault as usize] += 1;
         trial.tally.lists_before_room += u64::from(room < needed);
         if random.percent(50) {
             let group = missing_group(random, &self.given.job);
             let missing = Some(Loss { group, moment: random.between(0, 20) as u32 });
             let refusal = Refusal::at(NO_SUCH_NODE, group.into());
-            expect(trial, &self.replay(missing, &list.bytes, room), refusal)?;
+            trial.refuse(&self.replay(missing, &list.bytes, room), refusal)?;
             trial.tally.missing_before_list += 1;
         }
         Ok(())
@@ -198,15 +198,6 @@ impl Timed<'_> {
         let moment = random.between(0, 20) as u32;
         random.percent(50).then_some(Loss { group, moment })
     }
-}
-
-/// The call has to be refused so, on both sides.
-fn expect(trial: &mut Trial, call: &Call, refusal: Refusal) -> Result<(), Mismatch> {
-    if trial.compare(call)? != refusal.code() {
-        let text = format!("not refused as it should be, {}", describe(refusal.code()));
-        return Err(Mismatch::new(call, text));
-    }
-    Ok(())
 }
 
 /// All comparisons on given files, as written after a mismatch, the third read as a list.

@@ -4,7 +4,7 @@ use std::fmt;
 
 use crate::console::{Console, Places, SECOND};
 use crate::framed::{Framed, FramedPlaces};
-use crate::refusal::describe;
+use crate::refusal::{describe, Refusal};
 use crate::replay::Loss;
 use crate::tally::Tally;
 
@@ -21,6 +21,9 @@ pub enum Function<'a> {
     Commit(&'a [u8], usize),
     FaultSets,
     Trial,
+    /// With the log.
+    RunTimes(&'a [u8]),
+    RenewJob(&'a [u8]),
 }
 
 impl<'a> Function<'a> {
@@ -41,13 +44,19 @@ impl<'a> Function<'a> {
         }
     }
 
+    fn log(self) -> &'a [u8] {
+        match self {
+            Function::RunTimes(log) | Function::RenewJob(log) => log,
+            _ => &[],
+        }
+    }
+
     /// What is read beside job and plan.
     fn third(self) -> &'a [u8] {
         match self {
-            Function::Ask(third) | Function::Commit(third, _) | Function::ReplayTimes(_, third) => {
-                third
-            }
-            _ => &[],
+            Function::Ask(_) | Function::Commit(..) => self.entry(),
+            Function::ReplayTimes(..) => self.times(),
+            _ => self.log(),
         }
     }
 
@@ -75,6 +84,7 @@ impl fmt::Display for Call<'_> {
         let plan = format!("plan of {} bytes", self.plan.len());
         let entry = self.function.entry().len();
         let times = format!("list of {} bytes", self.function.times().len());
+        let log = format!("log of {} bytes", self.function.log().len());
         let room = format!("buffer of {} bytes", self.room);
         match self.function {
             Function::Judge => write!(f, "judge({job}, {plan})"),
@@ -97,6 +107,8 @@ impl fmt::Display for Call<'_> {
             }
             Function::FaultSets => write!(f, "fault_sets({job}, {plan}, {room})"),
             Function::Trial => write!(f, "trial({job}, {plan})"),
+            Function::RunTimes(_) => write!(f, "run_times({job}, {log}, {room})"),
+            Function::RenewJob(_) => write!(f, "renew_job({job}, {log}, {room})"),
         }
     }
 }
@@ -111,6 +123,8 @@ pub struct Mismatch {
     pub entry: Vec<u8>,
     /// The list of actual times; empty if the call has none.
     pub times: Vec<u8>,
+    /// The log; empty if the call has none.
+    pub log: Vec<u8>,
 }
 
 impl Mismatch {
@@ -121,6 +135,7 @@ impl Mismatch {
             plan: call.plan.to_vec(),
             entry: call.function.entry().to_vec(),
             times: call.function.times().to_vec(),
+            log: call.function.log().to_vec(),
         }
     }
 }
@@ -173,6 +188,15 @@ impl Trial {
         }
         self.tally.count(call.function, got);
         Ok(got)
+    }
+
+    /// Makes a call that has to be refused so, on both sides.
+    pub fn refuse(&mut self, call: &Call, refusal: Refusal) -> Result<(), Mismatch> {
+        if self.compare(call)? != refusal.code() {
+            let text = format!("not refused as it should be, {}", describe(refusal.code()));
+            return Err(Mismatch::new(call, text));
+        }
+        Ok(())
     }
 
     /// What the last call left in the output buffer, in a commit the job's.
@@ -232,7 +256,7 @@ impl Trial {
         let inputs = [
             (&self.job, call.job, "job"),
             (&self.plan, call.plan, "plan"),
-            (&self.third, call.function.third(), "description, booking or list"),
+            (&self.third, call.function.third(), "description, booking, list or log"),
         ];
         if let Some((.., name)) = inputs.iter().find(|(frame, content, _)| !frame.holds(content)) {
             return Some(format!("changed the {name} or bytes beside it"));
@@ -262,5 +286,7 @@ fn make(console: &Console, function: Function, inputs: [&[u8]; 3], outputs: Outp
         Function::Commit(..) => (console.commit)(job, plan, third, first, second),
         Function::FaultSets => (console.fault_sets)(job, plan, first),
         Function::Trial => (console.trial)(job, plan),
+        Function::RunTimes(_) => (console.run_times)(job, third, first),
+        Function::RenewJob(_) => (console.renew_job)(job, third, first),
     }
 }

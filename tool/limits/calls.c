@@ -8,7 +8,8 @@
 static const char *const call_names[CALLS] = {
     "seqopchi_judge", "seqopchi_trial", "seqopchi_plan", "seqopchi_replay",
     "seqopchi_replay_loss", "seqopchi_replay_times", "seqopchi_replay_times_loss",
-    "seqopchi_fault_sets", "seqopchi_ask", "seqopchi_commit"
+    "seqopchi_fault_sets", "seqopchi_ask", "seqopchi_commit", "seqopchi_run_times",
+    "seqopchi_renew_job"
 };
 
 const char *const field_names[FIELDS] = {
@@ -17,7 +18,8 @@ const char *const field_names[FIELDS] = {
     "primary's node", "primary's start", "backup's node", "backup's start",
     "new ready time", "new deadline", "new run time", "new links", "new from",
     "new delay", "new primary's node", "new primary's start", "new backup's node",
-    "new backup's start", "primary's time", "backup's time"
+    "new backup's start", "primary's time", "backup's time", "task of a record",
+    "node of a record", "ticks of a record"
 };
 
 const uint32_t since[FIELDS] = {
@@ -29,12 +31,12 @@ const uint32_t usual[FIELDS] = {
     [LINKS] = 2, [DELAY] = 2, [PLAN_VERSION] = SEQOPCHI_PLAN_VERSION, [BACKUP] = 1,
     [NEW_DEADLINE] = 9999, [NEW_RUN] = 4, [NEW_LINKS] = 2, [NEW_DELAY] = 2,
     [NEW_PRIMARY_START] = 5000, [NEW_BACKUP] = 1, [NEW_BACKUP_START] = 6000,
-    [PRIMARY_TIME] = 1, [BACKUP_TIME] = 1
+    [PRIMARY_TIME] = 1, [BACKUP_TIME] = 1, [LOG_TICKS] = 3
 };
 
 uint32_t version;
 uint32_t numbers[FIELDS];
-struct file job, plan, task, booking, times;
+struct file job, plan, task, booking, times, history;
 uint8_t out[ROOM], out_plan[ROOM];
 size_t plan_room = ROOM;
 uint32_t places[4];
@@ -171,6 +173,21 @@ void write_times(void)
     }
 }
 
+void put_record(uint32_t task, uint32_t node, uint32_t ticks)
+{
+    put(&history, LOG_TASK, task);
+    put(&history, LOG_NODE, node);
+    put(&history, LOG_TICKS, ticks);
+}
+
+/* Of the first task on the first node, then of the last on the last. */
+static void write_log(void)
+{
+    history.length = 0;
+    put_record(0, 0, numbers[LOG_TICKS]);
+    put_record(numbers[TASKS] - 1, numbers[NODES] - 1, numbers[LOG_TICKS]);
+}
+
 void write_files(enum field field, uint32_t number)
 {
     memcpy(numbers, usual, sizeof numbers);
@@ -180,6 +197,7 @@ void write_files(enum field field, uint32_t number)
     write_plan();
     write_task();
     write_times();
+    write_log();
 }
 
 void take_planned(void)
@@ -203,12 +221,26 @@ void write_rows(uint32_t tasks, const uint32_t *rows)
         put(&plan, PRIMARY + k % 4, rows[k]);
 }
 
-uint64_t result_of(enum call call, size_t out_len)
+static void mark_outputs(void)
 {
-    calls++;
     memset(out, MARK, sizeof out);
     memset(out_plan, MARK, sizeof out_plan);
     memset(places, MARK, sizeof places);
+}
+
+static uint64_t result_of_log(enum call call, size_t out_len)
+{
+    if (call == RENEW)
+        return seqopchi_renew_job(job.data, job.length, history.data, history.length,
+                                  out, out_len);
+    return seqopchi_run_times(job.data, job.length, history.data, history.length,
+                              out, out_len);
+}
+
+uint64_t result_of(enum call call, size_t out_len)
+{
+    calls++;
+    mark_outputs();
     switch (call) {
     case JUDGE:
         return seqopchi_judge(job.data, job.length, plan.data, plan.length);
@@ -235,6 +267,9 @@ uint64_t result_of(enum call call, size_t out_len)
     case ASK:
         return seqopchi_ask(job.data, job.length, plan.data, plan.length,
                             task.data, task.length, places);
+    case RUN_TIMES:
+    case RENEW:
+        return result_of_log(call, out_len);
     default:
         return seqopchi_commit(job.data, job.length, plan.data, plan.length,
                                booking.data, booking.length, out, out_len,

@@ -29,11 +29,12 @@ static void expect_read(void)
     }
 }
 
-/* Every call finds this fault in the file; the planner reads no plan. */
+/* Every call finds this fault in the file; the planner and those with a log read no
+ * plan. */
 static void expect_fault(const struct file *f, unsigned number, size_t offset)
 {
     for (int call = JUDGE; call < CALLS; call++)
-        if (f == &job || call != PLAN)
+        if (f == &job || (call != PLAN && call != RUN_TIMES && call != RENEW))
             expect(call, 0, number, offset, 0);
 }
 
@@ -290,6 +291,7 @@ static void check_version(void)
     check_sets();
     check_trial();
     check_times();
+    check_log();
     if (version >= since[READY])
         check_readiness();
     if (version >= since[SEND])

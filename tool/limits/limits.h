@@ -11,18 +11,19 @@
 #define OLDEST_JOB_VERSION 1
 
 enum call {
-    JUDGE, TRIAL, PLAN, REPLAY, LOSS, TIMES, TIMES_LOSS, SETS, ASK, COMMIT, CALLS
+    JUDGE, TRIAL, PLAN, REPLAY, LOSS, TIMES, TIMES_LOSS, SETS, ASK, COMMIT,
+    RUN_TIMES, RENEW, CALLS
 };
 
-/* The numbers of a job, of a plan, of a description, of a booking's place and of a list
- * of times. */
+/* The numbers of a job, of a plan, of a description, of a booking's place, of a list of
+ * times and of a log. */
 enum field {
     VERSION, NODES, DETECT, SEND, GROUP, TASKS,
     READY, DEADLINE, RUN, LINKS, FROM, TO, DELAY,
     PLAN_VERSION, ROWS, PRIMARY, PRIMARY_START, BACKUP, BACKUP_START,
     NEW_READY, NEW_DEADLINE, NEW_RUN, NEW_LINKS, NEW_FROM, NEW_DELAY,
     NEW_PRIMARY, NEW_PRIMARY_START, NEW_BACKUP, NEW_BACKUP_START,
-    PRIMARY_TIME, BACKUP_TIME, FIELDS
+    PRIMARY_TIME, BACKUP_TIME, LOG_TASK, LOG_NODE, LOG_TICKS, FIELDS
 };
 
 extern const char *const field_names[FIELDS];
@@ -41,7 +42,7 @@ struct file {
 
 extern uint32_t version;         /* the usual one of a job */
 extern uint32_t numbers[FIELDS]; /* what the files are made of */
-extern struct file job, plan, task, booking, times;
+extern struct file job, plan, task, booking, times, history; /* the last is a log */
 extern uint8_t out[ROOM], out_plan[ROOM]; /* of a commit: longer job, longer plan */
 extern size_t plan_room;                  /* how much of out_plan a commit is given */
 extern uint32_t places[4];
@@ -59,6 +60,7 @@ void put(struct file *f, enum field field, uint32_t number);
 void write_job(void);
 void write_task(void); /* and the booking */
 void write_times(void);
+void put_record(uint32_t task, uint32_t node, uint32_t ticks); /* the newest of the log */
 /* The usual files with one number changed. */
 void write_files(enum field field, uint32_t number);
 /* The same, and the planner's plan of the job. */
@@ -112,5 +114,8 @@ void check_trial_groups(void);
 
 /* Lists of times: limits, lengths, the order of refusals, and what they change. */
 void check_times(void);
+
+/* Logs: limits, lengths, the order of refusals, the window, and the run times. */
+void check_log(void);
 
 #endif

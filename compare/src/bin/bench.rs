@@ -5,10 +5,10 @@ use std::process::ExitCode;
 use std::time::Instant;
 use std::{env, fs};
 
-use compare::console::{plan_bytes, replay_bytes, Console, Places};
+use compare::console::{plan_bytes, replay_bytes, table_bytes, Console, Places};
 use compare::foreign::{LIBRARY, PLAIN, TUNED};
 use compare::refusal::{Refusal, NO, SAME_NODE, SHORT};
-use compare::sized::{asked, crowded_on, planned, AskedJob, PlannedJob};
+use compare::sized::{asked, crowded_on, planned, AskedJob, Kind, PlannedJob};
 
 const DEFAULT_ROUNDS: usize = 2001;
 
@@ -49,9 +49,11 @@ enum Work {
     Commit,
     FaultSets,
     Trial,
+    RunTimes,
+    RenewJob,
 }
 
-const WORKS: [(Work, &str); 11] = [
+const WORKS: [(Work, &str); 13] = [
     (Work::Reading, "reading the job"),
     (Work::Judge, "judge"),
     (Work::Plan, "plan"),
@@ -63,10 +65,26 @@ const WORKS: [(Work, &str); 11] = [
     (Work::Commit, "commit"),
     (Work::FaultSets, "fault_sets"),
     (Work::Trial, "trial"),
+    (Work::RunTimes, "run_times"),
+    (Work::RenewJob, "renew_job"),
 ];
 
-/// The job for which the library's trial is set beside its replay.
+/// The job for which the library's trial is set beside its replay, and which has the long logs.
 const LARGEST: &str = "maximum";
+
+/// Logs for run_times: what they are about, and how many records they have. Without a record it is
+/// the cost of any call.
+const LONG: usize = 1_000_000;
+const LONG_LOGS: [(&str, Kind, usize); 5] = [
+    ("no record", Kind::AnyCell, 0),
+    ("any task on any node", Kind::AnyCell, LONG),
+    ("one task on one node, falling ticks", Kind::Falling, LONG),
+    ("one task on one node, rising ticks", Kind::Rising, LONG),
+    ("one task on eight nodes", Kind::EightCells, LONG),
+];
+
+/// A call with a long log takes so long that fewer rounds will do: one for so many of the others.
+const ROUNDS_A_LONG_LOG: usize = 50;
 
 /// All that a call may write.
 #[derive(PartialEq)]
@@ -108,16 +126,34 @@ fn main() -> ExitCode {
         let (low, middle) = (trial.0 / replay.0, trial.1 / replay.1);
         println!("\nThe library on {LARGEST}, trial / replay: {low:.1} / {middle:.1}");
     }
+    time_long_logs(rounds)
+}
+
+/// The table for long logs, of the greatest job.
+fn time_long_logs(rounds: usize) -> ExitCode {
+    let few = rounds.div_ceil(ROUNDS_A_LONG_LOG);
+    print_long_head(few);
+    let mut case = case(LARGEST, 1, 16, 64, 512);
+    for (name, kind, records) in LONG_LOGS {
+        case.sized.log = kind.log(case.sized.nodes, case.sized.tasks, records);
+        if !same_answers(&case, Work::RunTimes) {
+            println!("{name}: the sides differ");
+            return ExitCode::FAILURE;
+        }
+        let rounds = if records == 0 { rounds } else { few };
+        print!("| {name} | {records} ");
+        print_times(&time(&case, Work::RunTimes, rounds), records.max(1) as f64);
+    }
     ExitCode::SUCCESS
 }
 
-/// In microseconds; the times rise.
+/// In nanoseconds; the times rise.
 fn least(side: &[f64]) -> f64 {
-    side[0] / 1000.0
+    side[0]
 }
 
 fn median(side: &[f64]) -> f64 {
-    side[side.len() / 2] / 1000.0
+    side[side.len() / 2]
 }
 
 fn print_head(rounds: usize) {
@@ -131,6 +167,15 @@ fn print_head(rounds: usize) {
     println!("| ---: | ---: | ---: | ---: | ---: | ---: |");
 }
 
+fn print_long_head(rounds: usize) {
+    println!("\nNanoseconds for a record in run_times with a long log, the job being {LARGEST};");
+    println!("{rounds} samples of each side. Where there is no record, for the call, with as many");
+    println!("samples as above.\n");
+    print!("| log | records | library least | median | plain least | median ");
+    println!("| tuned least | median | to plain | to tuned |");
+    println!("| --- | ---: | ---: | ---: | ---: | ---: | ---: | ---: | ---: | ---: |");
+}
+
 fn processor() -> String {
     let text = fs::read_to_string("/proc/cpuinfo").unwrap_or_default();
     let line = text.lines().find(|line| line.starts_with("model name"));
@@ -142,8 +187,13 @@ fn print_row(case: &Case, work: Work, function: &str, times: &Times) {
     let job = if is_asked { &case.asked.held } else { &case.sized };
     let PlannedJob { nodes, tasks, links, .. } = job;
     print!("| {} | {nodes} | {tasks} | {links} | {function} ", case.name);
+    print_times(times, 1000.0);
+}
+
+/// The rest of a row, with the times in that many nanoseconds.
+fn print_times(times: &Times, unit: f64) {
     for side in times {
-        print!("| {:.3} | {:.3} ", least(side), median(side));
+        print!("| {:.3} | {:.3} ", least(side) / unit, median(side) / unit);
     }
     let [library, baselines @ ..] = times;
     for side in baselines {
@@ -190,11 +240,12 @@ fn case(name: &'static str, version: u64, nodes: usize, tasks: usize, links: usi
 
 /// The works on a plan that the judge refuses, its own among them.
 fn is_for_any_plan(work: Work) -> bool {
-    !matches!(work, Work::Reading | Work::Plan | Work::Ask | Work::Commit)
+    use Work::{Ask, Commit, Plan, Reading, RenewJob, RunTimes};
+    !matches!(work, Reading | Plan | Ask | Commit | RunTimes | RenewJob)
 }
 
 fn call(console: &Console, case: &Case, work: Work, out: &mut Output) -> u64 {
-    let PlannedJob { job, plan, loss, times, .. } = &case.sized;
+    let PlannedJob { job, plan, loss, times, log, .. } = &case.sized;
     let AskedJob { held, task, booking, .. } = &case.asked;
     let Output { bytes, places, longer_job, longer_plan } = out;
     match work {
@@ -209,14 +260,17 @@ fn call(console: &Console, case: &Case, work: Work, out: &mut Output) -> u64 {
         Work::Commit => (console.commit)(&held.job, &held.plan, booking, longer_job, longer_plan),
         Work::FaultSets => (console.fault_sets)(job, plan, bytes),
         Work::Trial => (console.trial)(job, plan),
+        Work::RunTimes => (console.run_times)(job, log, bytes),
+        Work::RenewJob => (console.renew_job)(job, log, bytes),
     }
 }
 
 fn output(case: &Case) -> Output {
-    let tasks = case.sized.tasks;
+    let PlannedJob { nodes, tasks, .. } = case.sized;
     let (job, plan) = case.asked.rooms;
+    let rooms = [plan_bytes(tasks), replay_bytes(tasks), table_bytes(nodes, tasks), job];
     Output {
-        bytes: vec![0; plan_bytes(tasks).max(replay_bytes(tasks))],
+        bytes: vec![0; rooms.into_iter().max().unwrap_or(0)],
         places: [0; 4],
         longer_job: vec![0; job],
         longer_plan: vec![0; plan],
@@ -262,6 +316,9 @@ fn sample(console: &Console, case: &Case, work: Work, out: &mut Output, repeats:
 }
 
 fn repeats(console: &Console, case: &Case, work: Work, out: &mut Output) -> usize {
+    if sample(console, case, work, out, 1) > 10.0 * SAMPLE_NANOSECONDS {
+        return 1;
+    }
     let tries = (0..20).map(|_| sample(console, case, work, out, 10));
     let quickest = tries.fold(f64::INFINITY, f64::min);
     ((SAMPLE_NANOSECONDS / quickest) as usize).max(1)

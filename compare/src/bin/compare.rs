@@ -10,7 +10,7 @@ use compare::random::Random;
 use compare::refusal::WORDS;
 use compare::tally::Tally;
 use compare::trial::{Mismatch, Trial};
-use compare::{crowds, entries, fills, rounds, sequences, shares, timed};
+use compare::{crowds, entries, fills, logged, rounds, sequences, shares, timed};
 
 const DEFAULT_COUNT: u64 = 5_000;
 const DEFAULT_SEED: u64 = 1;
@@ -26,8 +26,8 @@ const USAGE: &str = "usage: compare [--count JOBS] [--seed NUMBER] [--out FOLDER
                [--console library|plain|tuned|second]
   --count    random jobs to try
   --seed     where the random numbers start
-  --out      where job.bin, plan.bin, task.bin and times.bin are written after a mismatch
-             (default: here)
+  --out      where job.bin, plan.bin, task.bin, times.bin and log.bin are written after a
+             mismatch (default: here)
   --pair     try these of a folder instead of random jobs
   --console  which implementation to hold to the second one (default: library)";
 
@@ -98,11 +98,12 @@ fn try_random(trial: &mut Trial, options: &Options) -> Result<(), Mismatch> {
         "{} against second: {} jobs, seed {}",
         trial.console.name, options.count, options.seed
     );
-    // Four sources, so that the rounds of a seed are the same whatever the sequences draw, the
-    // sequences whatever the crowds, and the crowds whatever shares time.
+    // Five sources, so that the rounds of a seed are the same whatever the sequences draw, the
+    // sequences whatever the crowds, the crowds whatever shares time, and that whatever the logs.
     let (mut random, mut other) = (Random::new(options.seed), Random::new(!options.seed));
     let (mut third, mut fourth) =
         (Random::new(options.seed ^ 1 << 63), Random::new(options.seed ^ 1 << 62));
+    let mut fifth = Random::new(options.seed ^ 1 << 61);
     for round in 0..options.count {
         rounds::round(trial, &mut random)?;
         sequences::sequence(trial, &mut other)?;
@@ -118,6 +119,7 @@ fn try_random(trial: &mut Trial, options: &Options) -> Result<(), Mismatch> {
             crowds::crowd_fully(trial, &mut third)?;
         }
         shares::share(trial, &mut fourth)?;
+        logged::logs(trial, &mut fifth)?;
     }
     Ok(())
 }
@@ -133,17 +135,20 @@ fn try_pair(trial: &mut Trial, folder: &Path) -> Result<(), Mismatch> {
     if let Ok(entry) = fs::read(folder.join("task.bin")) {
         entries::entry(trial, &job, &plan, &entry)?;
     }
-    match fs::read(folder.join("times.bin")) {
-        Ok(times) => timed::list(trial, &job, &plan, &times),
+    if let Ok(times) = fs::read(folder.join("times.bin")) {
+        timed::list(trial, &job, &plan, &times)?;
+    }
+    match fs::read(folder.join("log.bin")) {
+        Ok(log) => logged::log(trial, &job, &log),
         Err(_) => Ok(()),
     }
 }
 
 fn report(mismatch: &Mismatch, folder: &Path) {
     println!("MISMATCH: {}", mismatch.text);
-    let Mismatch { job, plan, entry, times, .. } = mismatch;
-    let files = [("job.bin", job), ("plan.bin", plan), ("task.bin", entry), ("times.bin", times)];
-    for (name, bytes) in files {
+    let Mismatch { job, plan, entry, times, log, .. } = mismatch;
+    let files = [("job.bin", job), ("plan.bin", plan), ("task.bin", entry)];
+    for (name, bytes) in files.into_iter().chain([("times.bin", times), ("log.bin", log)]) {
         let path = folder.join(name);
         match fs::write(&path, bytes) {
             Ok(()) => println!("written: {}", path.display()),

@@ -114,7 +114,7 @@ module _ (s : List ℕ) where
   unfolding tailFault
   tail-fits end h = fits-unless _ (Tail end) (fits-at 6 end (omega arith) h)
 
-  node-fits : (at p : ℕ) (run : List ℕ) → at < 2 ^ 32 → FaultFits (nodeFault s at p run)
+  pub node-fits : (at p : ℕ) (run : List ℕ) → at < 2 ^ 32 → FaultFits (nodeFault s at p run)
   unfolding nodeFault
   node-fits at p run h = fits-or-else _ _ (value-fits at 0 (p - 1) h) (λ _. fits-unless _ (Unable at) (fits-at 7 at (omega arith) h))
 

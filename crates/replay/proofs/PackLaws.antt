@@ -29,7 +29,7 @@ number-pack (v ∷ vs) (suc i) p h =
 
 -- rows of w numbers
 module _ (w : ℕ) (f : ℕ → List ℕ) (wide : (i : ℕ) → length (f i) ≡ w) where
-  length-flat : (n : ℕ) → length (flat n f) ≡ w * n
+  pub length-flat : (n : ℕ) → length (flat n f) ≡ w * n
   unfolding flat
   length-flat zero = omega arith
   length-flat (suc n) = omega (arith, length-append (flat n f) (f n), length-flat n, wide n, mul-suc w n)
@@ -41,7 +41,7 @@ module _ (w : ℕ) (f : ℕ → List ℕ) (wide : (i : ℕ) → length (f i) ≡
   before-end : (n i k : ℕ) → i < n → k < w → w * i + k < w * n
   before-end n i k p q = omega (arith, mul-suc w i, mul-le-mul-left w p)
 
-  flat-at : (n i k : ℕ) → i < n → k < w → getD (flat n f) (w * i + k) 0 ≡ getD (f i) k 0
+  pub flat-at : (n i k : ℕ) → i < n → k < w → getD (flat n f) (w * i + k) 0 ≡ getD (f i) k 0
   unfolding flat
   flat-at zero i k p q = absurd (not-suc-le-zero p)
   flat-at (suc n) i k p q =

@@ -26,7 +26,7 @@ pub refused-kept : (fault : Option Refusal) (s out : List ℕ) → (result (writ
 refused-kept none s out h = absurd (h refl)
 refused-kept (some r) s out h = refl
 
-done-beyond : (fault : Option Refusal) (s out : List ℕ) (n : ℕ) → length s ≡ n → result (writes fault s out .answer) ≡ 0
+pub done-beyond : (fault : Option Refusal) (s out : List ℕ) (n : ℕ) → length s ≡ n → result (writes fault s out .answer) ≡ 0
     → drop n (writes fault s out .buffer) ≡ drop n out
 done-beyond fault s out n e h =
     ap (λ o. drop n (writes o s out .buffer)) (answered-done fault .0 (result-done _ h)) ∙ drop-at s _ n e ∙ ap (λ m. drop m out) e

@@ -94,7 +94,7 @@ fn put_nodes(
 }
 
 // The first run times of a task.
-fn put_run(d: &mut [u8], from: usize, count: usize, run: [u32; Job::MAX_NODES]) -> usize
+pub fn put_run(d: &mut [u8], from: usize, count: usize, run: [u32; Job::MAX_NODES]) -> usize
     requires { ⌜ (count ≤ maxNodes) × (from + 4 * count ≤ length (now d)) ⌝ }
     ensures { λ r. ⌜ Rows (λ i. getD run i 0 ∷ []) 4 (now (d .entry)) from count (now (d .exit)) r ⌝ }
 {

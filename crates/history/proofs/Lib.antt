@@ -1,0 +1,12 @@
+pub mod MostLaws
+pub mod TurnLaws
+pub mod WindowLaws
+pub mod PushLaws
+pub mod SeenLaws
+pub mod LogLaws
+pub mod TableLaws
+pub mod RenewedLaws
+pub mod CallLaws
+pub mod Meaning
+pub mod TimeBytes
+pub mod Samples

@@ -1,0 +1,8 @@
+pub mod Log
+pub mod Times
+pub mod Calls
+pub mod Window
+pub mod Blocks
+pub mod Promise
+pub mod Newest
+pub mod Samples
