@@ -19,7 +19,8 @@ use Rattle.reader.specs.Reads.{Reads}
 use Rattle.reader.specs.PlanFile.{nodeFault}
 use Rattle.reader.proofs.NumberLaws.{is-none, is-value, is-fault}
 use Rattle.reader.proofs.Chain.{pass, stop, stopped, finished, reads-none, reads-some, reads-value}
-use Rattle.reader.proofs.FirstLaws.{first-start, first-more, first-found}
+use Rattle.reader.proofs.FieldLaws.{field-good}
+use Rattle.reader.proofs.FirstLaws.{or-else-r, first-start, first-more, first-found}
 use Rattle.history.specs.declared.window.Timing.{Timing}
 use Rattle.history.specs.declared.window.Window.{Window}
 use Rattle.history.specs.Log.{minTicks, timingAt, timingFault, records, recordAt, logFault}
@@ -79,7 +80,7 @@ pub record SoFar (log : List ℕ) (job : Job) (k : ℕ) (w : Window) : Type 0 wh
 pub record LogTo (log : List ℕ) (tasksN nodesN : ℕ) (runs : List ℕ) (at : ℕ) (w : Window) : Type 0 where
   pub k : ℕ
   pub at-is : at ≡ 12 * k
-  pub within : at < length log + 12
+  pub within : at ≤ length log
   pub formed : Formed w
   pub read : (job : Job) → tasks job ≡ tasksN → nodes job ≡ nodesN → Runs job runs → SoFar log job k w
 
@@ -93,27 +94,41 @@ log-start log tasksN nodesN runs = record {
 }
 
 module _ (log : List ℕ) (tasksN nodesN : ℕ) (runs : List ℕ) (at : ℕ) (w : Window) (inv : LogTo log tasksN nodesN runs at w) where
-  module _ (below : at < length log) (a : Answer) (x : Timing) (one : OneRead log tasksN nodesN runs at a x) where
-    inside : inv .k < records log
-    unfolding records
-    inside = omega (arith, inv .at-is)
-
-    pub log-stop : {r : Refusal} (v : Window) → a ≡ Refused r → (b : Answer) → b ≡ a → AllRead log tasksN nodesN runs b v
-    unfolding logFault
-    log-stop {r} v q b same = λ job p n h.
-        let bad : timingFault log job (12 * inv .k) ≡ some r = ap (λ y. timingFault log job y) (sym (inv .at-is)) ∙ reads-some (one job p n h) q in
+  -- the next record
+  module _ (a : Answer) (x : Timing) (one : OneRead log tasksN nodesN runs at a x) where
+    stops : {r : Refusal} {A : Type 0} (job : Job) → at < length log → tasks job ≡ tasksN → nodes job ≡ nodesN → Runs job runs
+        → (b : Answer) → b ≡ a → a ≡ Refused r → Reads (logFault log job) b A
+    unfolding logFault records
+    stops {r} job below p n h b same q =
+        let inside : inv .k < records log = omega (arith, inv .at-is) in
+        let bad : timingFault log job (12 * inv .k) ≡ some r = ap (timingFault log job) (sym (inv .at-is)) ∙ reads-some (one job p n h) q in
         stopped (first-found (λ i. timingFault log job (12 * i)) (records log) (inv .k) r inside (inv .read job p n h .clear) bad) (same ∙ q)
 
-    pub log-more : a ≡ Done → (v : Window) → Takes w x v → LogTo log tasksN nodesN runs (at + 12) v
-    log-more q v push = record {
+    pub log-stop : {r : Refusal} (v : Window) → at + 12 ≤ length log → a ≡ Refused r → (b : Answer) → b ≡ a → AllRead log tasksN nodesN runs b v
+    log-stop v whole q b same = λ job p n h. stops job (omega arith) p n h b same q
+
+    -- a record that is cut short is refused
+    pub log-cut : (v : Window) → at < length log → length log < at + 12 → (b : Answer) → b ≡ a → AllRead log tasksN nodesN runs b v
+    unfolding timingFault
+    log-cut v below cut b same = λ job p n h. go job p n h a refl
+      where
+        go : (job : Job) → tasks job ≡ tasksN → nodes job ≡ nodesN → Runs job runs → (c : Answer) → a ≡ c
+            → Reads (logFault log job) b (Formed v × Holding (recordAt log) (records log) v)
+        go job p n h (Refused r) e = stops job below p n h b same e
+        go job p n h Done e =
+            let room = field-good log (at + 8) _ _ _ (or-else-r _ _ (or-else-r _ _ (reads-none (one job p n h) e))) .room in
+            absurd (let z : ⊥ = omega (arith, room, cut) in z)
+
+    pub log-more : at + 12 ≤ length log → a ≡ Done → (v : Window) → Takes w x v → LogTo log tasksN nodesN runs (at + 12) v
+    log-more whole q v push = record {
       k = inv .k + 1;
       at-is = omega (arith, inv .at-is);
-      within = omega arith;
+      within = whole;
       formed = push .formed;
       read = λ job p n h.
           let r = one job p n h in
-          let fine : timingFault log job (12 * inv .k) ≡ none = ap (λ y. timingFault log job y) (sym (inv .at-is)) ∙ reads-none r q in
-          let is : recordAt log (inv .k) ≡ x = ap (λ y. timingAt log y) (sym (inv .at-is)) ∙ sym (reads-value r q) in
+          let fine : timingFault log job (12 * inv .k) ≡ none = ap (timingFault log job) (sym (inv .at-is)) ∙ reads-none r q in
+          let is : recordAt log (inv .k) ≡ x = ap (timingAt log) (sym (inv .at-is)) ∙ sym (reads-value r q) in
           record {
             clear = first-more (λ i. timingFault log job (12 * i)) (inv .k) (inv .read job p n h .clear) fine;
             holds = push .holds (recordAt log) (inv .k) is (inv .read job p n h .holds);

@@ -118,7 +118,7 @@ fn log_read(
     }
 }
 
-// The whole log, of any length: each record goes into the window as it is read.
+// The whole log, of any length: each record goes into the window as it is read. One that is cut short, behind the others, is refused.
 pub fn read_log(log: &[u8], tasks: usize, nodes: usize, runs: &[u32; Window::CELLS]) -> LogRead
     requires { ⌜ (1 ≤ tasks) × (tasks ≤ maxTasks) × (1 ≤ nodes) × (nodes ≤ maxNodes) ⌝ }
     ensures { λ r. ⌜ AllRead (now (log .entry)) tasks nodes (now (runs .entry)) (r .answer) (r .window) ⌝ }
@@ -128,7 +128,7 @@ pub fn read_log(log: &[u8], tasks: usize, nodes: usize, runs: &[u32; Window::CEL
     let mut left = [0u32; Window::CELLS];
     let mut slot: usize = 0;
     let mut at: usize = 0;
-    while at < log.len() {
+    while at + Timing::LENGTH <= log.len() {
         let one = read_timing(log, at, tasks, nodes, runs);
         let answer = one.answer;
         let Answer::Done = answer else {
@@ -137,6 +137,11 @@ pub fn read_log(log: &[u8], tasks: usize, nodes: usize, runs: &[u32; Window::CEL
         let x = one.timing;
         slot = push(&mut cell, &mut mark, &mut left, slot, x);
         at += Timing::LENGTH;
+    }
+    if at < log.len() {
+        let cut = read_timing(log, at, tasks, nodes, runs);
+        let refused = cut.answer;
+        return log_read(refused, cell, mark, left, slot);
     }
     log_read(Answer::Done, cell, mark, left, slot)
 }

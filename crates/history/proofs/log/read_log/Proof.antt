@@ -3,7 +3,7 @@ use Prim.Native.Nat.{_-_}
 use lib.ListN.{length}
 use native.Mathlib.Omega.{arith}
 use Rattle.history.specs.Window.{window}
-use Rattle.history.proofs.LogLaws.{LogTo, log-start, log-stop, log-more, log-done}
+use Rattle.history.proofs.LogLaws.{LogTo, log-start, log-stop, log-more, log-cut, log-done}
 use borrow.Author.Needs.{needs}
 use Rattle.history.proofs.log.read_log.Statement.{statement}
 use Rattle.history.proofs.log.read_log.Tie as tie
@@ -17,6 +17,9 @@ abbrev μ-loop : tie.MeasureT-loop
 loop-holds : tie.Need-loop-holds Inv-loop μ-loop
 loop-holds c = log-start _ _ _ _
 
+add-loop : tie.Need-add-loop Inv-loop μ-loop
+add-loop c = omega (arith, c .loop .inv .within)
+
 read-timing-requires : tie.Need-read-timing-requires Inv-loop μ-loop
 read-timing-requires c κs =
     let at-pre = c .before .before .before in
@@ -25,8 +28,8 @@ read-timing-requires c κs =
 returns : tie.Need-returns Inv-loop μ-loop
 returns c =
     let at-read-timing = c .before .before .before in
-    log-stop _ _ _ _ _ _ (at-read-timing .before .before .loop .inv) (at-read-timing .before .loop-test .taken) _ _
-    (at-read-timing .read-timing .ensures .1) _ (c .before .enum-told2 .given .1) _ (c .log-read .ensures .0)
+    log-stop _ _ _ _ _ _ (at-read-timing .before .before .loop .inv) _ _ (at-read-timing .read-timing .ensures .1) _
+    (at-read-timing .before .loop-test .taken) (c .before .enum-told2 .given .1) _ (c .log-read .ensures .0)
 
 push-requires : tie.Need-push-requires Inv-loop μ-loop
 push-requires c κs =
@@ -43,14 +46,27 @@ loop-again : tie.Need-loop-again Inv-loop μ-loop
 loop-again c =
     let at-enum-told = c .before .before .before .before .before in
     let at-loop-test = at-enum-told .before .before .before in
-    log-more _ _ _ _ _ _ (at-loop-test .before .loop .inv) (at-loop-test .loop-test .taken) _ _
-    (at-enum-told .before .before .read-timing .ensures .1) (at-enum-told .enum-told .given .1) _ (c .push .ensures)
+    log-more _ _ _ _ _ _ (at-loop-test .before .loop .inv) _ _ (at-enum-told .before .before .read-timing .ensures .1)
+    (at-loop-test .loop-test .taken) (at-enum-told .enum-told .given .1) _ (c .push .ensures)
+
+read-timing-requires-2 : tie.Need-read-timing-requires-2 Inv-loop μ-loop
+read-timing-requires-2 c κs =
+    let at-pre = c .before .before .before .before in
+    (omega (arith, c .before .before .loop .inv .within), at-pre .pre .0, at-pre .pre .1, at-pre .pre .2, at-pre .pre .3)
 
 returns-2 : tie.Need-returns-2 Inv-loop μ-loop
-returns-2 c = log-done _ _ _ _ _ _ (c .before .before .loop .inv) (omega arith) _ (c .log-read2 .ensures .0) _ (c .log-read2 .ensures .1)
+returns-2 c =
+    let at-loop = c .before .before .before .before in
+    log-cut _ _ _ _ _ _ (at-loop .loop .inv) _ _ (c .before .read-timing2 .ensures .1) _ (c .before .before .if1 .taken) (omega arith) _
+    (c .log-read2 .ensures .0)
+
+returns-3 : tie.Need-returns-3 Inv-loop μ-loop
+returns-3 c =
+    let at-loop = c .before .before .before in
+    log-done _ _ _ _ _ _ (at-loop .loop .inv) (omega arith) _ (c .log-read3 .ensures .0) _ (c .log-read3 .ensures .1)
 
 pub read-log-spec : {M : Type 1} → statement M
 read-log-spec =
     tie.close
-    (tie.spec Inv-loop μ-loop loop-holds read-timing-requires (λ c. search needs) (λ c. search needs) (λ c κs. search needs) returns
-    push-requires add-at loop-less loop-again (λ c κs. search needs) returns-2)
+    (tie.spec Inv-loop μ-loop loop-holds add-loop read-timing-requires (λ c. search needs) (λ c. search needs) (λ c κs. search needs) returns
+    push-requires add-at loop-less loop-again read-timing-requires-2 (λ c κs. search needs) returns-2 (λ c κs. search needs) returns-3)
