@@ -2,7 +2,7 @@
 use Prim.Native.Nat.{ℕ, _*_, _≤_, _<_}
 use mathlib.Core.Path.{_≡_, refl, sym, ap, _∙_, subst}
 use mathlib.Core.List.{List, [], _∷_, _++_}
-use mathlib.Core.Option.{none, some}
+use mathlib.Core.Option.{none}
 use lib.Dec.{leb}
 use lib.ListN.{length, drop}
 use borrow.Author.Tests.{lt-leb, le-leb}
@@ -18,19 +18,19 @@ use Rattle.reader.specs.Limits.{maxNodes, maxTasks}
 use Rattle.reader.specs.Entries.{nodes, tasks, run}
 use Rattle.reader.specs.Reads.{Reads}
 use Rattle.reader.specs.Sound.{Sound}
-use Rattle.reader.specs.JobFile.{JobDone, jobAt, jobFault, readJob}
+use Rattle.reader.specs.JobFile.{jobAt, jobFault, readJob}
 use Rattle.reader.proofs.Accepted.{job-good}
 use Rattle.reader.proofs.Chain.{pass, stop, reads-none, reads-some, reads-value}
 use Rattle.reader.proofs.FirstLaws.{none-unless, some-unless}
 use Rattle.reader.proofs.LengthLaws.{job-length}
-use Rattle.reader.proofs.Promise.{job-sound as job-promise, job-done}
-use Rattle.reader.proofs.RefusalLaws.{answered-refused}
-use Rattle.writer.specs.Write.{splice, pack, jobBytes, roomFault, Written, writes, writeJob}
+use Rattle.reader.proofs.Promise.{job-sound as job-promise}
+use Rattle.writer.specs.Write.{pack, jobBytes, roomFault, Written, writes, writeJob}
 use Rattle.writer.specs.Puts.{Puts}
-use Rattle.writer.proofs.PutLaws.{splice-front}
 use Rattle.writer.proofs.SameNumbers.{flat-same}
 use Rattle.writer.proofs.SoundReads.{sound-job-length}
 use Rattle.writer.proofs.SoundWrites.{sound-job-written}
+use Rattle.seqopchi.proofs.PlanLaws.{put-front}
+use Rattle.seqopchi.proofs.ReadLaws.{refuses, bad-job, good, job-is, job-sound}
 use Rattle.history.specs.Log.{logFault}
 use Rattle.history.specs.Times.{logTime, tableNumbers, tableLength, renewed}
 use Rattle.history.specs.Calls.{callFault, tableFault, tableBytes, runTimes, renewFault, renewedIn, renewJob}
@@ -41,45 +41,32 @@ module _ (job log out : List ℕ) (need : ℕ) (s : List ℕ) where
   abbrev call : Written
   call = writes (callFault job log out need) s out
 
-  refused-with : (a : Answer) {r : Refusal} → callFault job log out need ≡ some r → a ≡ Refused r → call ≡ record { answer = a; buffer = out }
-  refused-with a e q = rw (e, q)
-
   module _ (read : JobRead) (is : read ≡ readJob job) where
-    pub bad-job : {r : Refusal} → read .answer ≡ Refused r → call ≡ record { answer = read .answer; buffer = out }
-    unfolding readJob callFault
-    bad-job {r} q = refused-with (read .answer) (stop _ (answered-refused _ r .0 (sym (ap (λ x. x .answer) is) ∙ q))) q
+    pub job-refused : {r : Refusal} → read .answer ≡ Refused r → call ≡ record { answer = read .answer; buffer = out }
+    unfolding callFault
+    job-refused q = refuses s out (stop _ (bad-job job read is q)) q
 
-    module _ (done : read .answer ≡ Done) where
-      pub job-read : JobDone job
-      job-read = job-done job (sym (ap (λ x. x .answer) is) ∙ done)
+    -- the room that the code asks for is that which the call needs
+    module _ (done : read .answer ≡ Done) (n : ℕ) (asks : n ≡ need) where
+      pub no-room : length out < n → call ≡ record { answer = Refused (ShortBuffer n); buffer = out }
+      unfolding callFault roomFault
+      no-room h =
+          let short = some-unless _ _ (ShortBuffer n) (lt-leb need (length out) (omega arith)) (ap ShortBuffer (sym asks)) in
+          refuses s out (pass _ (good job read is done .fault) ∙ stop _ short) refl
 
-      pub job-is : read .job ≡ jobAt job
-      job-is = ap (λ x. x .job) is ∙ job-read .job
-
-      pub job-sound : Sound (read .job)
-      job-sound = subst Sound (sym (ap (λ x. x .job) is)) (job-read .sound)
-
-      -- the room that the code asks for is that which the call needs
-      module _ (n : ℕ) (asks : n ≡ need) where
-        pub no-room : length out < n → call ≡ record { answer = Refused (ShortBuffer n); buffer = out }
+      module _ (room : n ≤ length out) (a : Answer) {A : Type 0} (reads : Reads (logFault log (read .job)) a A) where
+        to-log : callFault job log out need ≡ logFault log (read .job)
         unfolding callFault roomFault
-        no-room h =
-            refused-with (Refused (ShortBuffer n))
-            (pass _ (job-read .fault) ∙ stop _ (some-unless _ _ (ShortBuffer n) (lt-leb need (length out) (omega arith)) (ap ShortBuffer (sym asks)))) refl
+        to-log =
+            pass _ (good job read is done .fault)
+            ∙ pass _ (none-unless _ _ (le-leb need (length out) (omega arith)))
+            ∙ ap (logFault log) (sym (job-is job read is done))
 
-        module _ (room : n ≤ length out) (a : Answer) {A : Type 0} (reads : Reads (logFault log (read .job)) a A) where
-          to-log : callFault job log out need ≡ logFault log (read .job)
-          unfolding callFault roomFault
-          to-log =
-              pass _ (job-read .fault)
-              ∙ pass _ (none-unless _ _ (le-leb need (length out) (omega arith)))
-              ∙ ap (logFault log) (sym job-is)
+        pub log-refused : {r : Refusal} → a ≡ Refused r → call ≡ record { answer = a; buffer = out }
+        log-refused q = refuses s out (to-log ∙ reads-some reads q) q
 
-          pub bad-log : {r : Refusal} → a ≡ Refused r → call ≡ record { answer = a; buffer = out }
-          bad-log q = refused-with a (to-log ∙ reads-some reads q) q
-
-          pub no-fault : a ≡ Done → callFault job log out need ≡ none
-          no-fault q = to-log ∙ reads-none reads q
+        pub no-fault : a ≡ Done → callFault job log out need ≡ none
+        no-fault q = to-log ∙ reads-none reads q
 
 -- both calls are such
 module _ (job log out : List ℕ) where
@@ -106,10 +93,10 @@ module _ (job new : Job) (time : ℕ → ℕ → ℕ) (sound : Sound job) (is : 
   table-needs size room = rw is (sound .tasks-most, sound .nodes-most, room)
 
   table-put : {out d : List ℕ} {end : ℕ} → Puts out 0 (tableNumbers new (run new)) d end
-      → d ≡ pack (tableNumbers job time) ++ drop (length (pack (tableNumbers job time))) out
-  table-put {out} puts =
+      → pack (tableNumbers job time) ++ drop (length (pack (tableNumbers job time))) out ≡ d
+  table-put {out} {d} puts =
       let numbers : tableNumbers new (run new) ≡ tableNumbers job time = rw is (table-renewed job time sound) in
-      puts .buffer ∙ ap (λ vs. splice out 0 (pack vs)) numbers ∙ splice-front out (pack (tableNumbers job time)) _ refl
+      subst (λ vs. pack vs ++ drop (length (pack vs)) out ≡ d) numbers (put-front puts)
 
 -- the renewed job is a sound one, of the length of the job
 module _ (job log : List ℕ) (fine : jobFault job ≡ none) (read : logFault log (jobAt job) ≡ none) where
@@ -134,7 +121,7 @@ module _ (job log out : List ℕ) (fine : jobFault job ≡ none) (read : logFaul
 module _ (job log out : List ℕ) (read : JobRead) (is : read ≡ readJob job) (done : read .answer ≡ Done) (a : Answer) (new : Job)
     (reads : Reads (logFault log (read .job)) a (new ≡ renewed (read .job) (logTime (read .job) log))) (q : a ≡ Done) where
   value : read .job ≡ jobAt job
-  value = job-is job log out 0 [] read is done
+  value = job-is job read is done
 
   pub table-written : tableLength (read .job) ≤ length out → {d : List ℕ} {end : ℕ} → Puts out 0 (tableNumbers new (run new)) d end
       → runTimes job log out ≡ record { answer = Done; buffer = d }
@@ -142,9 +129,9 @@ module _ (job log out : List ℕ) (read : JobRead) (is : read ≡ readJob job) (
   table-written room {d} puts =
       let bytes = tableBytes job log in
       let fine = no-fault job log out _ bytes read is done _ (ap tableLength value) room a reads q in
-      let put = table-put (read .job) new _ (job-sound job log out 0 [] read is done) (reads-value reads q) puts in
+      let put = table-put (read .job) new _ (job-sound job read is done) (reads-value reads q) puts in
       let same : bytes ≡ pack (tableNumbers (read .job) (logTime (read .job) log)) = rw value in
-      table-is job log out ∙ rw (fine, same) (ap (λ b. record { answer = Done; buffer = b }) (sym put))
+      table-is job log out ∙ rw (fine, same) (ap (λ b. record { answer = Done; buffer = b }) put)
 
   pub renew-written : length job ≤ length out → {r : Answer} {d : List ℕ} → writeJob new out ≡ record { answer = r; buffer = d }
       → renewJob job log out ≡ record { answer = r; buffer = d }
@@ -153,4 +140,4 @@ module _ (job log out : List ℕ) (read : JobRead) (is : read ≡ readJob job) (
       let fine = no-fault job log out _ (jobBytes (renewedIn job log)) read is done _ refl room a reads q in
       let read-log : logFault log (jobAt job) ≡ none = rw value at (reads-none reads q) in
       let new-is : new ≡ renewedIn job log = reads-value reads q ∙ rw value in
-      rw fine (sym (renew-writes job log out (job-read job log out 0 [] read is done .fault) read-log room) ∙ ap (λ x. writeJob x out) (sym new-is) ∙ wrote)
+      rw fine (sym (renew-writes job log out (good job read is done .fault) read-log room) ∙ ap (λ x. writeJob x out) (sym new-is) ∙ wrote)

@@ -4,7 +4,7 @@ use mathlib.Core.Bool.{Bool, cond}
 use mathlib.Core.List.{List}
 use mathlib.Core.Logic.{_↔_}
 use mathlib.Core.Option.{none}
-use mathlib.Core.Path.{_≡_, refl, sym, ap, _∙_}
+use mathlib.Core.Path.{_≡_, sym, ap, _∙_}
 use lib.Dec.{eqb}
 use borrow.Author.Tests.{eqb-true, eq-eqb}
 use native.Mathlib.Nat.{not-suc-le-zero}
@@ -19,6 +19,7 @@ use Rattle.history.specs.Times.{most, ticksOn, orElseRun, afresh, window
 use Rattle.history.specs.Log.{records, recordAt, logFault}
 use Rattle.history.specs.Newest.{Largest, Grows, Moves}
 use Rattle.history.proofs.MostLaws.{most-none}
+use Rattle.history.proofs.TableLaws.{time-none, time-seen}
 use Rattle.history.proofs.RenewedLaws.{good-timing}
 
 pub most-bound : (m : ℕ) (f : ℕ → ℕ) (i : ℕ) → i < m → f i ≤ most m f
@@ -77,15 +78,6 @@ module _ (j n : ℕ) (x : Timing) where
       let z : ticksOn j n x ≡ 0 = ap (λ c. cond c (x .ticks) 0) e in
       absurd (let y : ⊥ = omega (arith, z, h) in y))
 
-seen-time : (t run : ℕ) → 0 < t → orElseRun t run ≡ t
-unfolding orElseRun
-seen-time zero run h = absurd (let z : ⊥ = omega (arith, h) in z)
-seen-time (suc t) run h = refl
-
-unseen-time : (t run : ℕ) → t ≡ 0 → orElseRun t run ≡ run
-unfolding orElseRun
-unseen-time t run e = rw e
-
 module _ (job : Job) (m : ℕ) (x : ℕ → Timing) (j n : ℕ) where
   -- 'the largest ticks seen'
   pub afresh-largest : (i : ℕ) → i < m → x i .task ≡ j → x i .node ≡ n → 0 < x i .ticks → Largest m x j n (afresh job m x j n)
@@ -97,7 +89,8 @@ module _ (job : Job) (m : ℕ) (x : ℕ → Timing) (j n : ℕ) where
       let some : 0 < most m f = omega (arith, bound i p a b) in
       let r = most-reached m f some in
       let on = ticks-on j n (x (r .at)) (omega (arith, r .is, some)) in
-      let is : orElseRun (most m f) (run job j n) ≡ most m f = seen-time (most m f) (run job j n) some in
+      let is : orElseRun (most m f) (run job j n) ≡ most m f =
+      sym (time-seen (most m f) (run job j n) (λ e. let z : ⊥ = omega (arith, e, some) in z)) in
       record {
         at = r .at;
         below = r .below;
@@ -110,7 +103,7 @@ module _ (job : Job) (m : ℕ) (x : ℕ → Timing) (j n : ℕ) where
   -- 'or the job's run time where there is none'
   pub afresh-none : ((i : ℕ) → i < m → x i .task ≡ j → x i .node ≡ n → ⊥) → afresh job m x j n ≡ run job j n
   unfolding afresh
-  afresh-none h = unseen-time (most m (λ k. ticksOn j n (x k))) (run job j n) (most-none m _ (λ i p. ticks-none j n (x i) (h i p)))
+  afresh-none h = sym (time-none (most m (λ k. ticksOn j n (x k))) (run job j n) (most-none m _ (λ i p. ticks-none j n (x i) (h i p))))
 
 -- 'The window moves as records come in': what the newest are with one record more
 module _ (all : ℕ → Timing) (c : ℕ) where

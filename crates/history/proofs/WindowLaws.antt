@@ -3,7 +3,7 @@ use Prim.Native.Nat.{ℕ, zero, suc, _+_, _-_, _*_, _≤_, _<_}
 use mathlib.Core.Bool.{Bool, true, false, cond}
 use mathlib.Core.Path.{_≡_, refl, sym, ap, ap₂, _∙_}
 use lib.Dec.{eqb}
-use lib.ListN.{getD, replicate, length-replicate}
+use lib.ListN.{getD, length-replicate}
 use borrow.Author.Tests.{eqb-true, eq-eqb, lt-ltb, le-ltb}
 use native.Mathlib.Numerals.{add-one}
 use native.Mathlib.Omega.{arith}
@@ -11,6 +11,7 @@ use Rattle.reader.specs.Tests.{_and_}
 use Rattle.reader.specs.Limits.{maxNodes}
 use Rattle.reader.specs.Entries.{run}
 use Rattle.reader.proofs.TestLaws.{and-l, and-r, and-i, same-test}
+use Rattle.copies.proofs.ListMore.{replicated}
 use Rattle.history.specs.declared.window.Timing.{Timing}
 use Rattle.history.specs.declared.window.Window.{Window}
 use Rattle.history.specs.Times.{most, ticksOn, orElseRun, windowSize, kept, newest, afresh}
@@ -45,11 +46,6 @@ blank-peak : (all : ℕ → Timing) (p a m : ℕ) → a + m ≤ windowSize → p
 unfolding peak
 blank-peak all p a m h = most-none m _ (λ i q. blank-counts all p (a + i) (omega arith))
 
-zeros-at : (n i : ℕ) → _≡_ {A = ℕ} (getD (replicate n 0) i 0) 0
-zeros-at zero i = refl
-zeros-at (suc n) zero = refl
-zeros-at (suc n) (suc i) = zeros-at n i
-
 -- before the first record
 pub empty-formed : Formed emptyWindow
 empty-formed = record {
@@ -58,7 +54,7 @@ empty-formed = record {
     cell-size = length-replicate {A = ℕ} windowSize 0;
     mark-size = length-replicate {A = ℕ} windowSize 0;
     left-size = length-replicate {A = ℕ} cellCount 0;
-    cells = λ i. omega (arith, zeros-at windowSize i);
+    cells = λ i. omega (arith, replicated {A = ℕ} 0 windowSize i);
   };
 }
 
@@ -68,9 +64,9 @@ empty-holds all = record {
   count = omega arith;
   new-cell = λ i h. absurd (let z : ⊥ = omega arith in z);
   new-mark = λ i h. absurd (let z : ⊥ = omega arith in z);
-  old-cell = λ i a b. zeros-at windowSize i ∙ sym (ap (λ x. cellOf (x .task) (x .node)) (padded-blank all (windowSize * 0 + i) (omega arith)));
-  old-mark = λ i a b. zeros-at windowSize i ∙ sym (blank-peak all _ (windowSize * 0 + suc i) (windowSize - suc i) (omega arith));
-  left = λ p. zeros-at cellCount p ∙ sym (blank-peak all p 0 windowSize (omega arith));
+  old-cell = λ i a b. replicated {A = ℕ} 0 windowSize i ∙ sym (ap (λ x. cellOf (x .task) (x .node)) (padded-blank all (windowSize * 0 + i) (omega arith)));
+  old-mark = λ i a b. replicated {A = ℕ} 0 windowSize i ∙ sym (blank-peak all _ (windowSize * 0 + suc i) (windowSize - suc i) (omega arith));
+  left = λ p. replicated {A = ℕ} 0 cellCount p ∙ sym (blank-peak all p 0 windowSize (omega arith));
 }
 
 -- two tasks and nodes have one cell exactly if they are the same

@@ -1,13 +1,13 @@
 -- `history::renew_job` meets its contract.
-use mathlib.Core.List.{[]}
 use mathlib.Core.Path.{refl, _∙_}
-use Rattle.history.proofs.CallLaws.{bad-job, job-sound, no-room, bad-log, renew-is, renew-written}
+use Rattle.seqopchi.proofs.ReadLaws.{job-sound}
+use Rattle.history.proofs.CallLaws.{job-refused, no-room, log-refused, renew-is, renew-written}
 use borrow.Author.Needs.{needs}
 use Rattle.history.proofs.renew_job.Statement.{statement}
 use Rattle.history.proofs.renew_job.Tie as tie
 
 returns : tie.Need-returns
-returns c = renew-is _ _ _ ∙ bad-job _ _ _ _ _ _ (c .before .before .read-job .ensures) (c .enum-told2 .given .1)
+returns c = renew-is _ _ _ ∙ job-refused _ _ _ _ _ _ (c .before .before .read-job .ensures) (c .enum-told2 .given .1)
 
 returns-2 : tie.Need-returns-2
 returns-2 c =
@@ -17,13 +17,13 @@ returns-2 c =
 renew-requires : tie.Need-renew-requires
 renew-requires c κs =
     let at-read-job = c .before .before .before in
-    job-sound _ [] [] 0 [] _ (at-read-job .read-job .ensures) (c .before .enum-told .given .1)
+    job-sound _ _ (at-read-job .read-job .ensures) (c .before .enum-told .given .1)
 
 returns-3 : tie.Need-returns-3
 returns-3 c =
     let at-if1 = c .before .before .before in
     let at-read-job = at-if1 .before .before .before in
-    renew-is _ _ _ ∙ bad-log _ _ _ _ _ _ (at-read-job .read-job .ensures) (at-if1 .before .enum-told .given .1) _ refl (at-if1 .if1 .left) _
+    renew-is _ _ _ ∙ log-refused _ _ _ _ _ _ (at-read-job .read-job .ensures) (at-if1 .before .enum-told .given .1) _ refl (at-if1 .if1 .left) _
     (c .before .before .renew .ensures) (c .enum-told4 .given .1)
 
 returns-4 : tie.Need-returns-4
