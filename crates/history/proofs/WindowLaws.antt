@@ -122,18 +122,19 @@ module _ (all : ℕ → Timing) (c : ℕ) (w : Window) (formed : Formed w) (hold
     unfolding afresh
     table-afresh job j n h = ap (λ t. orElseRun t (run job j n)) (seen-newest j n h)
 
--- for every sequence of records, and the windows that come of the empty one as these are taken in one after another
-module _ (all : ℕ → Timing) (w : ℕ → Window) (begins : w 0 ≡ emptyWindow) (takes : (k : ℕ) → Takes (w k) (all k) (w (k + 1))) where
-  along : (P : ℕ → Type 0) → P 0 → ((k : ℕ) → P k → P (k + 1)) → (c : ℕ) → P c
-  along P first next zero = first
-  along P first next (suc c) = rw add-one at (next c (along P first next c))
+-- for every sequence of m records, and the windows that come of the empty one as these are taken in one after another
+module _ (all : ℕ → Timing) (m : ℕ) (w : ℕ → Window) (begins : w 0 ≡ emptyWindow) (takes : (k : ℕ) → k < m → Takes (w k) (all k) (w (k + 1))) where
+  along : (P : ℕ → Type 0) → P 0 → ((k : ℕ) → k < m → P k → P (k + 1)) → (c : ℕ) → c ≤ m → P c
+  along P first next zero h = first
+  along P first next (suc c) h = rw add-one at (next c h (along P first next c (omega arith)))
 
-  sequence-formed : (c : ℕ) → Formed (w c)
-  sequence-formed = along (λ c. Formed (w c)) (rw begins empty-formed) (λ k h. takes k .formed)
+  sequence-formed : (c : ℕ) → c ≤ m → Formed (w c)
+  sequence-formed = along (λ c. Formed (w c)) (rw begins empty-formed) (λ k p h. takes k p .formed)
 
-  sequence-holds : (c : ℕ) → Holding all c (w c)
-  sequence-holds = along (λ c. Holding all c (w c)) (rw begins (empty-holds all)) (λ k h. takes k .holds all k refl h)
+  sequence-holds : (c : ℕ) → c ≤ m → Holding all c (w c)
+  sequence-holds = along (λ c. Holding all c (w c)) (rw begins (empty-holds all)) (λ k p h. takes k p .holds all k refl h)
 
   -- after each of them the table is the one worked out afresh
-  pub every-sequence : ((k : ℕ) → all k .node < maxNodes) → (c : ℕ) → TableAfter all c (w c)
-  every-sequence nodes-most c = table-afresh all c (w c) (sequence-formed c) (sequence-holds c) (λ k p. nodes-most k)
+  pub every-sequence : ((k : ℕ) → k < m → all k .node < maxNodes) → (c : ℕ) → c ≤ m → TableAfter all c (w c)
+  every-sequence nodes-most c h =
+      table-afresh all c (w c) (sequence-formed c h) (sequence-holds c h) (λ k p. nodes-most k (omega arith))
