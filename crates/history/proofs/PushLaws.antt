@@ -71,7 +71,8 @@ module _ (cell mark left : List ℕ) (at : ℕ) (formed : Formed (window cell ma
 
     -- slots of the block under way
     slot : (l : List ℕ) (f : ℕ → ℕ) (v : ℕ) → length l ≡ windowSize → f (c + windowSize) ≡ v
-        → ((i : ℕ) → i < at → getD l i 0 ≡ f (base + windowSize + i)) → (i : ℕ) → i < at + 1 → getD (set l at v) i 0 ≡ f (base + windowSize + i)
+        → ((i : ℕ) → i < at → getD l i 0 ≡ f (base + windowSize + i))
+        → (i : ℕ) → i < at + 1 → getD (set l at v) i 0 ≡ f (base + windowSize + i)
     slot l f v size is was i h =
         elim (decLt i at) [
           | yes s ↦ getD-set-other l at i v 0 (omega arith) ∙ was i s

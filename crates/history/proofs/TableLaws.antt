@@ -135,7 +135,8 @@ module _ (job : Job) (before : List ℕ) (j : ℕ) (out : List ℕ) (at : ℕ) (
   pub table-room : j < tasks job → tableLength job ≤ length before → at + 4 * nodes job ≤ length out
   table-room h room = omega (arith, mul-suc (nodes job) j, mul-le-mul-left (nodes job) h, inv .at-is, inv .puts .size)
 
-  pub table-more : (d : List ℕ) (end : ℕ) → j < tasks job → Rows (λ n. run job j n ∷ []) 4 out at (nodes job) d end → TableTo job before (j + 1) d end
+  pub table-more : (d : List ℕ) (end : ℕ) → j < tasks job → Rows (λ n. run job j n ∷ []) 4 out at (nodes job) d end
+      → TableTo job before (j + 1) d end
   unfolding flat
   table-more d end h rows = record {
     within = omega arith;

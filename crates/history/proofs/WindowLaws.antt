@@ -64,7 +64,9 @@ empty-holds all = record {
   count = omega arith;
   new-cell = λ i h. absurd (let z : ⊥ = omega arith in z);
   new-mark = λ i h. absurd (let z : ⊥ = omega arith in z);
-  old-cell = λ i a b. replicated {A = ℕ} 0 windowSize i ∙ sym (ap (λ x. cellOf (x .task) (x .node)) (padded-blank all (windowSize * 0 + i) (omega arith)));
+  old-cell = λ i a b.
+      replicated {A = ℕ} 0 windowSize i
+      ∙ sym (ap (λ x. cellOf (x .task) (x .node)) (padded-blank all (windowSize * 0 + i) (omega arith)));
   old-mark = λ i a b. replicated {A = ℕ} 0 windowSize i ∙ sym (blank-peak all _ (windowSize * 0 + suc i) (windowSize - suc i) (omega arith));
   left = λ p. replicated {A = ℕ} 0 cellCount p ∙ sym (blank-peak all p 0 windowSize (omega arith));
 }
@@ -123,7 +125,8 @@ module _ (all : ℕ → Timing) (c : ℕ) (w : Window) (formed : Formed w) (hold
     table-afresh job j n h = ap (λ t. orElseRun t (run job j n)) (seen-newest j n h)
 
 -- for every sequence of m records, and the windows that come of the empty one as these are taken in one after another
-module _ (all : ℕ → Timing) (m : ℕ) (w : ℕ → Window) (begins : w 0 ≡ emptyWindow) (takes : (k : ℕ) → k < m → Takes (w k) (all k) (w (k + 1))) where
+module _ (all : ℕ → Timing) (m : ℕ) (w : ℕ → Window) (begins : w 0 ≡ emptyWindow)
+    (takes : (k : ℕ) → k < m → Takes (w k) (all k) (w (k + 1))) where
   along : (P : ℕ → Type 0) → P 0 → ((k : ℕ) → k < m → P k → P (k + 1)) → (c : ℕ) → c ≤ m → P c
   along P first next zero h = first
   along P first next (suc c) h = rw add-one at (next c h (along P first next c (omega arith)))

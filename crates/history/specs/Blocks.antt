@@ -56,7 +56,8 @@ Holding all c w = Holds (λ k. cellOf (padded all k .task) (padded all k .node))
 pub record Takes (w : Window) (x : Timing) (v : Window) : Type 0 where
   pub formed : Formed v
   pub holds : (all : ℕ → Timing) (c : ℕ) → all c ≡ x → Holding all c w → Holding all (c + 1) v
-  pub table : (all : ℕ → Timing) (c : ℕ) → all c ≡ x → Holding all c w → ((k : ℕ) → k < c + 1 → all k .node < maxNodes) → TableAfter all (c + 1) v
+  pub table : (all : ℕ → Timing) (c : ℕ) → all c ≡ x → Holding all c w → ((k : ℕ) → k < c + 1 → all k .node < maxNodes)
+      → TableAfter all (c + 1) v
 
 -- a full block of the records from d on, with their ticks as marks, and nothing left of the one before
 pub record Full (key val : ℕ → ℕ) (d : ℕ) (cell mark left : List ℕ) : Type 0 where
