@@ -1,9 +1,9 @@
 pub mod MostLaws
-pub mod TurnLaws
 pub mod WindowLaws
 pub mod PushLaws
 pub mod SeenLaws
 pub mod LogLaws
+pub mod GoodLogs
 pub mod TableLaws
 pub mod RenewedLaws
 pub mod CallLaws

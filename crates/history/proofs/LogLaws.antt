@@ -23,9 +23,9 @@ use Rattle.reader.proofs.FieldLaws.{field-good}
 use Rattle.reader.proofs.FirstLaws.{or-else-r, first-start, first-more, first-found}
 use Rattle.history.specs.declared.window.Timing.{Timing}
 use Rattle.history.specs.declared.window.Window.{Window}
-use Rattle.history.specs.Log.{minTicks, timingAt, timingFault, records, recordAt, logFault}
+use Rattle.history.specs.Log.{minTicks, timingAt, timingFault, records, recordAt, recordFault, logFault}
 use Rattle.history.specs.Window.{cellOf, emptyWindow}
-use Rattle.history.specs.Blocks.{Formed, Holding, Takes}
+use Rattle.history.specs.Ring.{Formed, Holding, Takes}
 use Rattle.history.specs.Promise.{Runs, OneRead, AllRead}
 use Rattle.history.proofs.WindowLaws.{empty-formed, empty-holds}
 
@@ -73,7 +73,7 @@ module _ (s : List ℕ) (at tasksN nodesN : ℕ) (job : Job) (is-tasks : tasks j
 
 -- the first k records are not at fault, and are in the window
 pub record SoFar (log : List ℕ) (job : Job) (k : ℕ) (w : Window) : Type 0 where
-  pub clear : first k (λ i. timingFault log job (12 * i)) ≡ none
+  pub clear : first k (recordFault log job) ≡ none
   pub holds : Holding (recordAt log) k w
 
 -- `read_log`, at an offset
@@ -90,7 +90,7 @@ log-start log tasksN nodesN runs = record {
   at-is = omega arith;
   within = omega arith;
   formed = empty-formed;
-  read = λ job p n h. record { clear = first-start (λ i. timingFault log job (12 * i)); holds = empty-holds (recordAt log) };
+  read = λ job p n h. record { clear = first-start (recordFault log job); holds = empty-holds (recordAt log) };
 }
 
 module _ (log : List ℕ) (tasksN nodesN : ℕ) (runs : List ℕ) (at : ℕ) (w : Window) (inv : LogTo log tasksN nodesN runs at w) where
@@ -101,8 +101,8 @@ module _ (log : List ℕ) (tasksN nodesN : ℕ) (runs : List ℕ) (at : ℕ) (w 
     unfolding logFault records
     stops {r} job below p n h b same q =
         let inside : inv .k < records log = omega (arith, inv .at-is) in
-        let bad : timingFault log job (12 * inv .k) ≡ some r = ap (timingFault log job) (sym (inv .at-is)) ∙ reads-some (one job p n h) q in
-        stopped (first-found (λ i. timingFault log job (12 * i)) (records log) (inv .k) r inside (inv .read job p n h .clear) bad) (same ∙ q)
+        let bad : recordFault log job (inv .k) ≡ some r = ap (timingFault log job) (sym (inv .at-is)) ∙ reads-some (one job p n h) q in
+        stopped (first-found (recordFault log job) (records log) (inv .k) r inside (inv .read job p n h .clear) bad) (same ∙ q)
 
     pub log-stop : {r : Refusal} (v : Window) → at + 12 ≤ length log → a ≡ Refused r → (b : Answer) → b ≡ a → AllRead log tasksN nodesN runs b v
     log-stop v whole q b same = λ job p n h. stops job (omega arith) p n h b same q
@@ -127,10 +127,10 @@ module _ (log : List ℕ) (tasksN nodesN : ℕ) (runs : List ℕ) (at : ℕ) (w 
       formed = push .formed;
       read = λ job p n h.
           let r = one job p n h in
-          let fine : timingFault log job (12 * inv .k) ≡ none = ap (timingFault log job) (sym (inv .at-is)) ∙ reads-none r q in
+          let fine : recordFault log job (inv .k) ≡ none = ap (timingFault log job) (sym (inv .at-is)) ∙ reads-none r q in
           let is : recordAt log (inv .k) ≡ x = ap (timingAt log) (sym (inv .at-is)) ∙ sym (reads-value r q) in
           record {
-            clear = first-more (λ i. timingFault log job (12 * i)) (inv .k) (inv .read job p n h .clear) fine;
+            clear = first-more (recordFault log job) (inv .k) (inv .read job p n h .clear) fine;
             holds = push .holds (recordAt log) (inv .k) is (inv .read job p n h .holds);
           };
     }
@@ -141,6 +141,6 @@ module _ (log : List ℕ) (tasksN nodesN : ℕ) (runs : List ℕ) (at : ℕ) (w 
       let e : inv .k ≡ records log = omega (arith, inv .at-is, inv .within) in
       let r = inv .read job p n h in
       finished
-      (ap (λ m. first m (λ i. timingFault log job (12 * i))) (sym e) ∙ r .clear)
+      (ap (λ m. first m (recordFault log job)) (sym e) ∙ r .clear)
       done
       (rw same (inv .formed, subst (λ m. Holding (recordAt log) m w) e (r .holds)))

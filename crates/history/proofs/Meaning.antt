@@ -7,26 +7,19 @@ use mathlib.Core.Option.{none}
 use mathlib.Core.Path.{_≡_, sym, ap, _∙_}
 use lib.Dec.{eqb}
 use borrow.Author.Tests.{eqb-true, eq-eqb}
-use native.Mathlib.Nat.{not-suc-le-zero}
 use native.Mathlib.Omega.{arith}
 use native.Mathlib.Decide.{decLt}
 use Rattle.reader.specs.declared.job.Job.{Job}
 use Rattle.reader.specs.Tests.{_and_}
 use Rattle.reader.specs.Entries.{run}
-use Rattle.reader.proofs.TestLaws.{split, below-suc, and-l, and-r, and-i}
+use Rattle.reader.proofs.TestLaws.{split, and-l, and-r, and-i}
 use Rattle.history.specs.declared.window.Timing.{Timing}
 use Rattle.history.specs.Times.{most, ticksOn, orElseRun, afresh, windowSize, kept, newest, logTime}
 use Rattle.history.specs.Log.{records, recordAt, logFault}
 use Rattle.history.specs.Newest.{Largest, Grows, Moves}
-use Rattle.history.proofs.MostLaws.{most-none}
+use Rattle.history.proofs.MostLaws.{most-none, most-bound}
 use Rattle.history.proofs.TableLaws.{time-none, time-seen}
-use Rattle.history.proofs.RenewedLaws.{good-timing}
-
-pub most-bound : (m : ℕ) (f : ℕ → ℕ) (i : ℕ) → i < m → f i ≤ most m f
-unfolding most
-most-bound zero f i p = absurd (not-suc-le-zero p)
-most-bound (suc m) f i p =
-    below-suc i m p (λ q. omega (arith, most-bound m f i q)) (λ e. let z : f i ≡ f m = ap f e in omega (arith, z))
+use Rattle.history.proofs.GoodLogs.{good-timing}
 
 -- one of the numbers is the largest
 pub record Reached (m : ℕ) (f : ℕ → ℕ) : Type 0 where

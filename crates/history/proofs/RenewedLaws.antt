@@ -1,5 +1,5 @@
 -- Laws of the job with other run times: what it has, that it is sound, and that a log gives such times.
-use Prim.Native.Nat.{ℕ, zero, suc, _+_, _-_, _*_, _≤_, _<_}
+use Prim.Native.Nat.{ℕ, zero, suc, _+_, _-_, _≤_, _<_}
 use mathlib.Core.Bool.{Bool, true, false, cond}
 use mathlib.Core.List.{List}
 use mathlib.Core.Option.{none}
@@ -16,19 +16,18 @@ use Rattle.reader.specs.Limits.{maxNodes, maxTasks, maxTime}
 use Rattle.reader.specs.Entries.{nodes, tasks, task, run, noTask, blankTask}
 use Rattle.reader.specs.Reads.{Reads}
 use Rattle.reader.specs.Sound.{Sound}
-use Rattle.reader.proofs.Accepted.{node-good}
 use Rattle.reader.proofs.Chain.{stopped, finished, reads-none, reads-some, reads-value}
-use Rattle.reader.proofs.FieldLaws.{field-good}
 use Rattle.reader.proofs.FillLaws.{fill-same, filled-at}
-use Rattle.reader.proofs.FirstLaws.{or-else-l, or-else-r, none-first}
 use Rattle.writer.proofs.FilledJob.{RunFilled, Filled}
 use Rattle.history.specs.declared.window.Timing.{Timing}
 use Rattle.history.specs.declared.window.Window.{Window}
-use Rattle.history.specs.Log.{minTicks, timingAt, timingFault, records, recordAt, logFault}
-use Rattle.history.specs.Times.{most, ticksOn, orElseRun, afresh, windowSize, kept, newest, logTime, renewedTask, renewed}
+use Rattle.history.specs.Log.{records, recordAt, logFault}
+use Rattle.history.specs.Times.{ticksOn, orElseRun, afresh, windowSize, kept, newest, logTime, renewedTask, renewed}
 use Rattle.history.specs.Window.{cellOf, Seen}
-use Rattle.history.specs.Blocks.{Formed, Holding}
+use Rattle.history.specs.Ring.{Formed, Holding}
 use Rattle.history.specs.Promise.{tableTime}
+use Rattle.history.proofs.GoodLogs.{good-timing}
+use Rattle.history.proofs.MostLaws.{most-within}
 use Rattle.history.proofs.WindowLaws.{table-afresh}
 
 -- times that are the same give the same job
@@ -90,28 +89,7 @@ module _ (job : Job) (time : ℕ → ℕ → ℕ) (sound : Sound job) where
     links-filled = filled .links-filled;
   }
 
--- a record of a log that is not at fault
-module _ (log : List ℕ) (job : Job) (fine : logFault log job ≡ none) (k : ℕ) (below : k < records log) where
-  pub record GoodTiming : Type 0 where
-    pub node : recordAt log k .node ≤ nodes job - 1
-    pub able : 0 < run job (recordAt log k .task) (recordAt log k .node)
-    pub ticks-least : minTicks ≤ recordAt log k .ticks
-    pub ticks-most : recordAt log k .ticks ≤ maxTime
-
-  pub good-timing : GoodTiming
-  unfolding logFault timingFault timingAt
-  good-timing =
-      let bad = none-first (records log) (λ i. timingFault log job (12 * i)) fine k below in
-      let node = node-good log (12 * k + 4) _ _ (or-else-l _ _ (or-else-r _ _ bad)) in
-      let ticks = field-good log (12 * k + 8) _ _ _ (or-else-r _ _ (or-else-r _ _ bad)) in
-      record { node = node .number .most; able = node .able; ticks-least = ticks .least; ticks-most = ticks .most }
-
 -- the times of a log that is not at fault
-most-within : (m : ℕ) (f : ℕ → ℕ) (b : ℕ) → ((i : ℕ) → i < m → f i ≤ b) → most m f ≤ b
-unfolding most
-most-within zero f b h = omega arith
-most-within (suc m) f b h = omega (arith, most-within m f b (λ i p. h i (omega arith)), h m (omega arith))
-
 ticks-within : (j n b : ℕ) (x : Timing) → x .ticks ≤ b → ticksOn j n x ≤ b
 unfolding ticksOn
 ticks-within j n b x h = go (eqb (x .task) j and eqb (x .node) n)
@@ -141,14 +119,14 @@ module _ (log : List ℕ) (job : Job) (sound : Sound job) (fine : logFault log j
       (sound .run-most j n p q)
 
   -- `renew`: the window's table gives these times
-  module _ (w : Window) (formed : Formed w) (holds : Holding (recordAt log) (records log) w) (seen : List ℕ) (has : Seen w seen) where
+  module _ (w : Window) (holds : Holding (recordAt log) (records log) w) (seen : List ℕ) (has : Seen w seen) where
     renewed-by : renewed job (tableTime seen job) ≡ renewed job (logTime job log)
     unfolding tableTime
     renewed-by =
         renewed-same job _ _
         (λ j n p q.
         ap (λ t. orElseRun t (run job j n)) (has .is (cellOf j n))
-        ∙ table-afresh (recordAt log) (records log) w formed holds nodes-low job j n (omega (arith, sound .nodes-most)))
+        ∙ table-afresh (recordAt log) (records log) w holds nodes-low job j n (omega (arith, sound .nodes-most)))
 
 module _ (log : List ℕ) (job : Job) (a : Answer) (w : Window) (reads : Reads (logFault log job) a (Formed w × Holding (recordAt log) (records log) w)) where
   pub renew-refused : {r : Refusal} {A : Type 0} → a ≡ Refused r → Reads (logFault log job) a A
@@ -161,5 +139,4 @@ module _ (log : List ℕ) (job : Job) (a : Answer) (w : Window) (reads : Reads (
       → Reads (logFault log job) a (new ≡ renewed job (logTime job log))
   renew-done sound q seen has new e =
       let fine = reads-none reads q in
-      let held = reads-value reads q in
-      finished fine q (e ∙ renewed-by log job sound fine w (held .0) (held .1) seen has)
+      finished fine q (e ∙ renewed-by log job sound fine w (reads-value reads q .1) seen has)

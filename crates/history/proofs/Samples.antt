@@ -2,7 +2,9 @@
 use mathlib.Core.List.{[], _∷_, _++_}
 use mathlib.Core.Option.{some}
 use mathlib.Core.Path.{_≡_, refl}
+use lib.Dec.{lit<}
 use lib.ListN.{replicate}
+use native.Mathlib.Nat.{not-suc-le-zero}
 use Rattle.reader.specs.declared.refusal.Refusal.the-variants.{Short, Unable}
 use Rattle.reader.specs.Tests.{_and_}
 use Rattle.reader.specs.First.{_or-else_, first, unless, fill}
@@ -12,6 +14,7 @@ use Rattle.writer.specs.Write.{pack, flat}
 use Rattle.history.specs.Log.{timingFault, records, logFault}
 use Rattle.history.specs.Times.{most, ticksOn, orElseRun, afresh, timeAfter}
 use Rattle.history.specs.Samples.{lab, runs, once, oldFault, neverDropped, newestFirst, runCounts}
+use Rattle.history.proofs.GoodLogs.{fault-told}
 
 unfoldable table : Unit {0}
 unfolding afresh most ticksOn orElseRun _and_ fill
@@ -56,4 +59,4 @@ cut-short = (refl, refl)
 -- a fault in the oldest of 257 records
 pub older-fault : logFault oldFault lab ≡ some (Unable 4)
 unfolding read
-older-fault = refl
+older-fault = fault-told oldFault lab 0 (Unable 4) (lit< tt) (λ i p. absurd (not-suc-le-zero p)) refl

@@ -2,7 +2,7 @@ pub mod Log
 pub mod Times
 pub mod Calls
 pub mod Window
-pub mod Blocks
+pub mod Ring
 pub mod Promise
 pub mod Newest
 pub mod Samples

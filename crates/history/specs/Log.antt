@@ -37,6 +37,9 @@ records s = (length s + 11) / timingLength
 abbrev pub recordAt : List ℕ → ℕ → Timing
 recordAt s k = timingAt s (timingLength * k)
 
+abbrev pub recordFault : List ℕ → Job → ℕ → Option Refusal
+recordFault s job k = timingFault s job (timingLength * k)
+
 -- 'The whole log is read, older records too.'
 unfoldable pub logFault : List ℕ → Job → Option Refusal
-logFault s job = first (records s) (λ k. timingFault s job (timingLength * k))
+logFault s job = first (records s) (recordFault s job)

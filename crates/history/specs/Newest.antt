@@ -1,12 +1,30 @@
--- What is said of the newest records, of the times that they give, and of the files that the calls write.
-use Prim.Native.Nat.{ℕ, _+_, _-_, _≤_, _<_}
+-- What is said of a log that is not at fault, of the newest records, of the times that they give, and of the files that the calls write.
+use Prim.Native.Nat.{ℕ, _+_, _-_, _*_, _≤_, _<_}
 use mathlib.Core.List.{List}
 use mathlib.Core.Option.{none}
 use mathlib.Core.Path.{_≡_}
+use lib.ListN.{length}
+use Rattle.reader.specs.declared.job.Job.{Job}
+use Rattle.reader.specs.Limits.{maxTime}
+use Rattle.reader.specs.Entries.{nodes, tasks, run}
 use Rattle.reader.specs.JobFile.{jobFault, jobAt}
 use Rattle.history.specs.declared.window.Timing.{Timing}
+use Rattle.history.specs.Log.{minTicks, timingLength, records, recordAt}
 use Rattle.history.specs.Times.{windowSize, kept, newest}
 use Rattle.history.specs.Calls.{renewedIn}
+
+-- a record of a task and a node of the job, of which the node can run the task, with ticks within their limits
+pub record GoodTiming (job : Job) (x : Timing) : Type 0 where
+  pub task : x .task ≤ tasks job - 1
+  pub node : x .node ≤ nodes job - 1
+  pub able : 0 < run job (x .task) (x .node)
+  pub ticks-least : minTicks ≤ x .ticks
+  pub ticks-most : x .ticks ≤ maxTime
+
+-- 'The whole log is read, older records too': it has whole records, and each of them is good
+pub record GoodLog (log : List ℕ) (job : Job) : Type 0 where
+  pub whole : length log ≡ timingLength * records log
+  pub each : (k : ℕ) → k < records log → GoodTiming job (recordAt log k)
 
 -- 'the largest ticks seen': t is those of one of m records x that are of task j and node n, and no such record has more
 pub record Largest (m : ℕ) (x : ℕ → Timing) (j n t : ℕ) : Type 0 where

@@ -15,7 +15,7 @@ use Rattle.history.specs.declared.window.Window.{Window}
 use Rattle.history.specs.Log.{timingAt, timingFault, records, recordAt, logFault}
 use Rattle.history.specs.Times.{orElseRun, renewedTask}
 use Rattle.history.specs.Window.{cellCount, cellOf}
-use Rattle.history.specs.Blocks.{Formed, Holding}
+use Rattle.history.specs.Ring.{Formed, Holding}
 
 -- a list of a number for each cell has the job's run times
 pub record Runs (job : Job) (runs : List ℕ) : Type 0 where

@@ -1,5 +1,5 @@
 -- The window of the newest records, as a value of the code, and its table.
-use Prim.Native.Nat.{ℕ, _+_, _*_, _<_, max}
+use Prim.Native.Nat.{ℕ, _+_, _*_, _<_}
 use mathlib.Core.Bool.{cond}
 use mathlib.Core.List.{List}
 use mathlib.Core.Path.{_≡_}
@@ -19,20 +19,20 @@ cellCount = maxTasks * maxNodes
 abbrev pub cellOf : ℕ → ℕ → ℕ
 cellOf j n = maxNodes * j + n
 
-abbrev pub window : List ℕ → List ℕ → List ℕ → ℕ → Window
-window cell mark left at = record { cell = cell; mark = mark; left = left; at = at }
+abbrev pub window : List ℕ → List ℕ → ℕ → Window
+window cell ticks at = record { cell = cell; ticks = ticks; at = at }
 
--- before the first record
+-- before the first record: ticks of 0, which no record has
 abbrev pub emptyWindow : Window
-emptyWindow = window (replicate windowSize 0) (replicate windowSize 0) (replicate cellCount 0) 0
+emptyWindow = window (replicate windowSize 0) (replicate windowSize 0) 0
 
--- of records k with cells key k and ticks val k: what record k counts for cell p
-abbrev pub counts : (ℕ → ℕ) → (ℕ → ℕ) → ℕ → ℕ → ℕ
-counts key val p k = cond (eqb (key k) p) (val k) 0
+-- what slot i of a window counts for cell p
+abbrev pub counts : Window → ℕ → ℕ → ℕ
+counts w p i = cond (eqb (getD (w .cell) i 0) p) (getD (w .ticks) i 0) 0
 
--- the largest ticks of a cell in a window: of what is left of the block before, and of the block under way
+-- the largest ticks of a cell in a window
 unfoldable pub seenIn : Window → ℕ → ℕ
-seenIn w p = max (getD (w .left) p 0) (most (w .at) (counts (λ i. getD (w .cell) i 0) (λ i. getD (w .mark) i 0) p))
+seenIn w p = most windowSize (counts w p)
 
 -- a window's table for a job
 abbrev pub timeIn : Window → Job → ℕ → ℕ → ℕ

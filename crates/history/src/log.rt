@@ -42,7 +42,7 @@ fn read_node(log: &[u8], at: usize, nodes: usize, task: u32, runs: &[u32; Window
     let Number::Is(node) = n else {
         return n;
     };
-    let p = cell_of(task, node);
+    let p = cell_of(task, node) as usize;
     if runs[p] == 0 {
         return Number::Fault(Refusal::Unable(at));
     }
@@ -101,20 +101,14 @@ fn read_timing(
 fn log_read(
     answer: Answer,
     cell: [u32; Window::SIZE],
-    mark: [u32; Window::SIZE],
-    left: [u32; Window::CELLS],
+    ticks: [u32; Window::SIZE],
     at: usize,
 ) -> LogRead
-    ensures { λ r. ⌜ (r .answer ≡ answer) × (r .window ≡ window cell mark left at) ⌝ }
+    ensures { λ r. ⌜ (r .answer ≡ answer) × (r .window ≡ window cell ticks at) ⌝ }
 {
     LogRead {
         answer,
-        window: Window {
-            cell,
-            mark,
-            left,
-            at,
-        },
+        window: Window { cell, ticks, at },
     }
 }
 
@@ -124,24 +118,23 @@ pub fn read_log(log: &[u8], tasks: usize, nodes: usize, runs: &[u32; Window::CEL
     ensures { λ r. ⌜ AllRead (now (log .entry)) tasks nodes (now (runs .entry)) (r .answer) (r .window) ⌝ }
 {
     let mut cell = [0u32; Window::SIZE];
-    let mut mark = [0u32; Window::SIZE];
-    let mut left = [0u32; Window::CELLS];
+    let mut ticks = [0u32; Window::SIZE];
     let mut slot: usize = 0;
     let mut at: usize = 0;
     while at + Timing::LENGTH <= log.len() {
         let one = read_timing(log, at, tasks, nodes, runs);
         let answer = one.answer;
         let Answer::Done = answer else {
-            return log_read(answer, cell, mark, left, slot);
+            return log_read(answer, cell, ticks, slot);
         };
         let x = one.timing;
-        slot = push(&mut cell, &mut mark, &mut left, slot, x);
+        slot = push(&mut cell, &mut ticks, slot, x);
         at += Timing::LENGTH;
     }
     if at < log.len() {
         let cut = read_timing(log, at, tasks, nodes, runs);
         let refused = cut.answer;
-        return log_read(refused, cell, mark, left, slot);
+        return log_read(refused, cell, ticks, slot);
     }
-    log_read(Answer::Done, cell, mark, left, slot)
+    log_read(Answer::Done, cell, ticks, slot)
 }

@@ -52,7 +52,7 @@ module _ (s : List ℕ) where
       (or-else-i _ _ (good-nodes _ (g .nodes))
       (or-else-i _ _ (good-tasks _ _ _ (g .tasks)) (or-else-i _ _ (good-links _ _ (g .links)) (good-tail _ (g .most)))))
 
-  good-node : (at p : ℕ) (run : List ℕ) → GoodNode s at p run → nodeFault s at p run ≡ none
+  pub good-node : (at p : ℕ) (run : List ℕ) → GoodNode s at p run → nodeFault s at p run ≡ none
   unfolding nodeFault
   good-node at p run g = or-else-i _ _ (good-field s _ _ _ _ (g .number)) (none-unless _ _ (lt-ltb 0 (getD run (numberAt s at) 0) (g .able)))
 

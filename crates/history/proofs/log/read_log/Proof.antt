@@ -9,10 +9,10 @@ use Rattle.history.proofs.log.read_log.Statement.{statement}
 use Rattle.history.proofs.log.read_log.Tie as tie
 
 abbrev Inv-loop : tie.InvT-loop
-Inv-loop log tasks nodes runs cell₀ mark₀ left₀ slot₀ at₀ cell mark left slot at = LogTo log tasks nodes runs at (window cell mark left slot)
+Inv-loop log tasks nodes runs cell₀ ticks₀ slot₀ at₀ cell ticks slot at = LogTo log tasks nodes runs at (window cell ticks slot)
 
 abbrev μ-loop : tie.MeasureT-loop
-μ-loop log tasks nodes runs cell₀ mark₀ left₀ slot₀ at₀ cell mark left slot at = length log - at
+μ-loop log tasks nodes runs cell₀ ticks₀ slot₀ at₀ cell ticks slot at = length log - at
 
 loop-holds : tie.Need-loop-holds Inv-loop μ-loop
 loop-holds c = log-start _ _ _ _
@@ -33,7 +33,7 @@ returns c =
 
 push-requires : tie.Need-push-requires Inv-loop μ-loop
 push-requires c κs =
-    let at-read-timing = c .before .before .before .before .before .before in
+    let at-read-timing = c .before .before .before .before .before in
     (at-read-timing .before .before .loop .inv .formed, at-read-timing .read-timing .ensures .0 .0, at-read-timing .read-timing .ensures .0 .1)
 
 add-at : tie.Need-add-at Inv-loop μ-loop
@@ -44,7 +44,7 @@ loop-less c = omega arith
 
 loop-again : tie.Need-loop-again Inv-loop μ-loop
 loop-again c =
-    let at-enum-told = c .before .before .before .before .before in
+    let at-enum-told = c .before .before .before .before in
     let at-loop-test = at-enum-told .before .before .before in
     log-more _ _ _ _ _ _ (at-loop-test .before .loop .inv) _ _ (at-enum-told .before .before .read-timing .ensures .1)
     (at-loop-test .loop-test .taken) (at-enum-told .enum-told .given .1) _ (c .push .ensures)

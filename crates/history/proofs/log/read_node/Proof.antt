@@ -46,4 +46,4 @@ pub read-node-spec : {M : Type 1} → statement M
 read-node-spec =
     tie.close
     (tie.spec (λ c. search needs) (λ c κs. search needs) (λ c. search needs) (λ c. search needs) returns cell-of-requires (λ c. search needs)
-    (λ c. search needs) returns-2 returns-3)
+    (λ c. search needs) (λ c. search needs) returns-2 returns-3)
