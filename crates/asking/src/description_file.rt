@@ -17,14 +17,14 @@ use reader::refusal::{Answer, Refusal};
 use rules::Description;
 
 // What was read, and the offset behind it.
-#[derive(Drop)]
+#[derive(Clone, Copy)]
 pub struct DescriptionRead {
     pub answer: Answer,
     pub description: Description,
     pub end: usize,
 }
 
-#[derive(Drop)]
+#[derive(Clone, Copy)]
 pub struct BookingRead {
     pub answer: Answer,
     pub description: Description,

@@ -1,4 +1,6 @@
 // Asking for a place, and taking it: document 02, request (iii), over values.
+#![tactic(auto)]
+
 ghost use Rattle.std.specs.Prelude.{◌≡◌};
 ghost use Rattle.rules.specs.Attempts.{placed};
 ghost use Rattle.reader.specs.declared.job.Job.{Job};
@@ -25,14 +27,14 @@ pub mod description_file;
 pub mod longer;
 
 // Where it is refused the place is all 0.
-#[derive(Drop)]
+#[derive(Clone, Copy)]
 pub struct Asked {
     pub answer: Answer,
     pub place: Place,
 }
 
 // What a commit hands back; where it is refused both are empty.
-#[derive(Drop)]
+#[derive(Clone, Copy)]
 pub struct Committed {
     pub answer: Answer,
     pub job: Job,

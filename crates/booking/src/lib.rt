@@ -1,4 +1,6 @@
 // Asking for a place in files, and taking it: what the rack's console calls for it, thin above the proved core.
+#![tactic(auto)]
+
 ghost use Rattle.std.specs.Prelude.{◌≡◌};
 ghost use Rattle.reader.specs.JobFile.{job_at};
 ghost use Rattle.reader.specs.Reads.{Reads};
@@ -18,7 +20,7 @@ use reader::refusal::{Answer, Refusal};
 use writer::{put_job, put_plan, send};
 
 // A job and a plan that passes; where a file or the plan is refused they say nothing.
-#[derive(Drop)]
+#[derive(Clone, Copy)]
 pub struct Passed {
     pub answer: Answer,
     pub job: Job,

@@ -7,7 +7,7 @@ use crate::table::Copies;
 use rules::Copy;
 
 // A copy's result as it goes out by a link: on the copy's own node from its finish on, on every other from `away` on.
-#[derive(Drop)]
+#[derive(Clone, Copy)]
 pub struct Result {
     pub node: u32,
     pub here: u32,

@@ -7,7 +7,7 @@ use rules::Copy;
 
 // The four arrays, which contracts name together and code lends one by one. A backup's set is its task's fault set, a primary's is every group, so
 // that one clash test serves both.
-#[derive(Drop)]
+#[derive(Clone, Copy)]
 pub struct Copies {
     pub node: [u32; Copies::COUNT],
     pub start: [u32; Copies::COUNT],

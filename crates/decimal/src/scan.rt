@@ -4,7 +4,7 @@ ghost use Rattle.decimal.specs.Numbers.{is_digit, grown};
 ghost use Rattle.decimal.specs.Scans.{Skips, Takes, Finds};
 
 // A number of a text, and the offset behind its digits.
-#[derive(Drop)]
+#[derive(Clone, Copy)]
 pub struct Found {
     pub value: usize,
     pub end: usize,

@@ -1,5 +1,7 @@
 // Run times from the last runs: a log of records, the window of the newest of them, and the job with their times. What the rack's console calls
 // for it is thin above that.
+#![tactic(auto)]
+
 pub mod log;
 pub mod renewed;
 pub mod window;

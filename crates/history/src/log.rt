@@ -15,13 +15,13 @@ use reader::job::Job;
 use reader::number::{Number, field, handed_on};
 use reader::refusal::{Answer, Refusal};
 
-#[derive(Drop)]
+#[derive(Clone, Copy)]
 pub struct OneTiming {
     pub answer: Answer,
     pub timing: Timing,
 }
 
-#[derive(Drop)]
+#[derive(Clone, Copy)]
 pub struct LogRead {
     pub answer: Answer,
     pub window: Window,

@@ -18,7 +18,7 @@ use reader::refusal::Answer;
 use writer::put_run;
 
 // Where the log is refused the job is as it was.
-#[derive(Drop)]
+#[derive(Clone, Copy)]
 pub struct Renewed {
     pub answer: Answer,
     pub job: Job,

@@ -11,7 +11,7 @@ ghost use Rattle.history.specs.Ring.{Formed, Takes};
 use reader::job::Job;
 
 // One record of a log: a task ran on a node for so many ticks.
-#[derive(Drop)]
+#[derive(Clone, Copy)]
 pub struct Timing {
     pub task: u32,
     pub node: u32,
@@ -26,7 +26,7 @@ impl Timing {
 }
 
 // A cell is a task and a node: of each slot its record's cell and ticks, and the slot of the next record.
-#[derive(Drop)]
+#[derive(Clone, Copy)]
 pub struct Window {
     pub cell: [u32; Window::SIZE],
     pub ticks: [u32; Window::SIZE],

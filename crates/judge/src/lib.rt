@@ -1,4 +1,6 @@
 // The judge: the rules of a plan, A to G in turn, the ready time after A.
+#![tactic(auto)]
+
 pub mod backups;
 pub mod faults;
 pub mod links;

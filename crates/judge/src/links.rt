@@ -20,7 +20,7 @@ pub fn index(task: u32) -> usize
 }
 
 // The answer of D, and the senders whose links leave E to the fault sets: by the links of all others both results are in time for the backup.
-#[derive(Drop)]
+#[derive(Clone, Copy)]
 pub struct Walked {
     pub answer: Answer,
     pub unsure: u64,

@@ -1,4 +1,6 @@
 // Prints the plan of the job file on standard input, or why there is none.
+#![tactic(auto)]
+
 use libc::{STDIN_FILENO, STDOUT_FILENO};
 use text::{ENOUGH, MAX_TEXT};
 

@@ -57,18 +57,27 @@ module _ (cs : Copies) (m n run : ℕ) where
   past_most bound ends i s p =
       split (meets (set_at cs i) m) (λ e. rw e (omega (arith, ends i))) (λ e. rw e (omega arith))
 
+  -- where a sweep stops, and where it goes on
+  sweep_stops : (i s : ℕ) (rest : List ℕ) → leb (s + run) (get_or cs.start i 0) ≡ true → sweep cs m run (i ∷ rest) s ≡ s
+  unfolding sweep
+  sweep_stops i s rest e = rw e refl
+
+  sweep_goes : (i s : ℕ) (rest : List ℕ) → leb (s + run) (get_or cs.start i 0) ≡ false → sweep cs m run (i ∷ rest) s ≡ sweep cs m run rest (past i s)
+  unfolding sweep
+  sweep_goes i s rest e = rw e refl
+
   -- the start that it ends at is free
   sweep_free : (l : List ℕ) (s : ℕ) → Rising cs l → free_of cs m (spot n (sweep cs m run l s) run) l ≡ true
-  unfolding sweep free_of all_of all_pairs
+  unfolding free_of all_of all_pairs
   sweep_free [] s h = refl
   sweep_free (i ∷ rest) s h =
       split (leb (s + run) (get_or cs.start i 0))
       (λ e. let behind = leb-true (s + run) (get_or cs.start i 0) e in
-      rw e (and_i _ _ (starts_behind m n s run (get_or cs.start i 0) _ _ behind)
+      subst (λ x. free_of cs m (spot n x run) (i ∷ rest) ≡ true) (sym (sweep_stops i s rest e)) (and_i _ _ (starts_behind m n s run (get_or cs.start i 0) _ _ behind)
       (all_map (λ b. leb (start_at cs.start i) (start_at cs.start b)) _
       (λ b q. starts_behind m n s run (get_or cs.start b 0) _ _ (let x = leb-true (start_at cs.start i) (start_at cs.start b) q in omega arith))
       rest (and_l _ _ h))))
-      (λ e. rw e (and_i _ _
+      (λ e. subst (λ x. free_of cs m (spot n x run) (i ∷ rest) ≡ true) (sym (sweep_goes i s rest e)) (and_i _ _
       (ends_before m n (sweep cs m run rest (past i s)) run _ (get_or cs.finish i 0) _
       (λ f. omega (arith, past_end i s f, sweep_past rest (past i s))))
       (sweep_free rest (past i s) (and_r _ _ h))))

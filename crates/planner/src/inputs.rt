@@ -9,14 +9,14 @@ use copies::table::Copies;
 use reader::job::Job;
 
 // The latest arrival, where it is not on the node that it leaves; and that node.
-#[derive(Drop)]
+#[derive(Clone, Copy)]
 pub struct Reach {
     pub at: u32,
     pub from: u32,
 }
 
 // From when all inputs are on a node: on the one that the latest leaves, and on each other.
-#[derive(Drop)]
+#[derive(Clone, Copy)]
 pub struct Ready {
     pub node: u32,
     pub own: u32,

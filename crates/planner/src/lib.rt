@@ -1,4 +1,6 @@
 // The planner: for each task by number, the earliest finish for its primary and then for its backup.
+#![tactic(auto)]
+
 ghost use Rattle.std.specs.Prelude.{◌≡◌};
 ghost use Rattle.reader.specs.Sound.{Sound};
 ghost use Rattle.rules.specs.Attempts.{refused, placed};
@@ -23,7 +25,7 @@ pub mod slot;
 pub mod task;
 
 // Where it is refused the plan is empty.
-#[derive(Drop)]
+#[derive(Clone, Copy)]
 pub struct Planned {
     pub answer: Answer,
     pub plan: Plan,

@@ -14,7 +14,7 @@ use reader::job::{Job, Task};
 use rules::Copy;
 
 // What is asked of one node: a place for a copy of this set that runs so long, beside the entries in its first spots.
-#[derive(Drop)]
+#[derive(Clone, Copy)]
 pub struct Ask {
     pub node: u32,
     pub count: usize,
@@ -24,7 +24,7 @@ pub struct Ask {
 
 // What is asked of all nodes for a copy of a task: when the inputs are on each, the least start, the copy's set, and the nodes that it
 // may not have.
-#[derive(Drop)]
+#[derive(Clone, Copy)]
 pub struct Search {
     pub task: Task,
     pub nodes: usize,

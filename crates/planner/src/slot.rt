@@ -9,7 +9,7 @@ ghost use Rattle.planner.specs.Search.{slot_copy, no_place, sooner_of, place_by}
 use copies::sets::holds;
 use rules::Copy;
 
-#[derive(Drop)]
+#[derive(Clone, Copy)]
 pub enum Slot {
     At(Copy),
     Nothing,

@@ -19,7 +19,7 @@ use Rattle.reader.specs.Refusals.{told, tell, Fits, FaultFits}
 use Rattle.reader.specs.Number.{number_at, field_fault, version_fault, count_fault, value_fault}
 use Rattle.reader.specs.JobFile.{job_version, task_width, node_section, task_section, link_section, job_length, node_count, task_count, link_count}
 use Rattle.reader.specs.JobFile.{nodes_fault, run_fault, task_fault, tasks_fault, link_fault, links_fault, tail_fault, job_fault}
-use Rattle.reader.specs.Fields.{Field, node_fields, task_fields, fault_if, has, width, fields_fault}
+use Rattle.reader.specs.Fields.{Field, node_fields, task_fields, fault_if, has, width, fields_fault, width_if}
 use Rattle.reader.specs.PlanFile.{node_fault, place_fault, places_fault, plan_length, plan_fault}
 use Rattle.reader.proofs.TestLaws.{never}
 use Rattle.reader.proofs.FieldLaws.{field_good}
@@ -70,7 +70,7 @@ module _ (s : List ℕ) where
   fields_fit v at [] h = fits_none
   fields_fit v at (f ∷ fs) h =
       fits_or_else _ _ (fits_if _ _ (value_fits at f.low f.high (omega arith))) (λ _.
-      fields_fit v _ fs (omega (arith, width_one (has v f))))
+      fields_fit v (at + width_if (has v f)) fs (omega (arith, width_one (has v f))))
 
   nodes_fit : (v : ℕ) → FaultFits (nodes_fault v s)
   unfolding nodes_fault

@@ -103,12 +103,12 @@ module _ (v : ℕ) where
     pub fields_good : (at : ℕ) (fs : List Field) → fields_fault v s at fs ≡ none → GoodFields s at fs
     unfolding GoodFields fields_fault
     fields_good at [] e = tt
-    fields_good at (f ∷ fs) e = (λ q. field_good s at _ _ (Value at) (fault_if_lem _ _ (or_else_l _ _ e) q), fields_good _ fs (or_else_r _ _ e))
+    fields_good at (f ∷ fs) e = (λ q. field_good s at _ _ (Value at) (fault_if_lem _ _ (or_else_l _ _ e) q), fields_good (at + width_if (has v f)) fs (or_else_r _ _ e))
 
     pub good_fields : (at : ℕ) (fs : List Field) → GoodFields s at fs → fields_fault v s at fs ≡ none
     unfolding GoodFields fields_fault
     good_fields at [] g = refl
-    good_fields at (f ∷ fs) g = or_else_i _ _ (if_fault _ _ (λ q. good_field s at _ _ (Value at) (g.0 q))) (good_fields _ fs g.1)
+    good_fields at (f ∷ fs) g = or_else_i _ _ (if_fault _ _ (λ q. good_field s at _ _ (Value at) (g.0 q))) (good_fields (at + width_if (has v f)) fs g.1)
 
     pub fields_room : (at : ℕ) (fs : List Field) → at ≤ length s → GoodFields s at fs → at + width v fs ≤ length s
     unfolding GoodFields width
@@ -119,4 +119,4 @@ module _ (v : ℕ) where
     pub fields_within : (at : ℕ) (fs : List Field) → GoodFields s at fs → AllWithin fs (fields_at v s at fs)
     unfolding GoodFields AllWithin fields_at
     fields_within at [] g = refl
-    fields_within at (f ∷ fs) g = (within_if v s at f g.0, fields_within _ fs g.1)
+    fields_within at (f ∷ fs) g = (within_if v s at f g.0, fields_within (at + width_if (has v f)) fs g.1)

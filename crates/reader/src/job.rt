@@ -3,7 +3,7 @@ ghost use Rattle.std.specs.Prelude.{◌≡◌};
 ghost use Rattle.reader.specs.Entries.{empty_job};
 
 // One loss takes every node of a group.
-#[derive(Drop)]
+#[derive(Clone, Copy)]
 pub struct Node {
     pub detect: u32,
     pub send: u32,
@@ -11,14 +11,14 @@ pub struct Node {
 }
 
 // A run time of 0 says that the node cannot run the task.
-#[derive(Drop)]
+#[derive(Clone, Copy)]
 pub struct Task {
     pub ready: u32,
     pub deadline: u32,
     pub run: [u32; Job::MAX_NODES],
 }
 
-#[derive(Drop)]
+#[derive(Clone, Copy)]
 pub struct Link {
     pub from: u32,
     pub to: u32,
@@ -26,7 +26,7 @@ pub struct Link {
 }
 
 // What the arrays hold beyond their counts is no part of the job, and a field that its version lacks is none.
-#[derive(Drop)]
+#[derive(Clone, Copy)]
 pub struct Job {
     pub version: u32,
     pub node_count: u32,

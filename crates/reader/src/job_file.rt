@@ -14,14 +14,14 @@ use crate::number::{Number, field, field_of_part, handed_on};
 use crate::refusal::{Answer, Refusal};
 
 // An entry, or a section of them, with the offset behind it.
-#[derive(Drop)]
+#[derive(Clone, Copy)]
 pub struct OneNode {
     pub answer: Answer,
     pub end: usize,
     pub node: Node,
 }
 
-#[derive(Drop)]
+#[derive(Clone, Copy)]
 pub struct Nodes {
     pub answer: Answer,
     pub end: usize,
@@ -29,20 +29,20 @@ pub struct Nodes {
     pub list: [Node; Job::MAX_NODES],
 }
 
-#[derive(Drop)]
+#[derive(Clone, Copy)]
 pub struct Run {
     pub answer: Answer,
     pub times: [u32; Job::MAX_NODES],
 }
 
-#[derive(Drop)]
+#[derive(Clone, Copy)]
 pub struct OneTask {
     pub answer: Answer,
     pub end: usize,
     pub task: Task,
 }
 
-#[derive(Drop)]
+#[derive(Clone, Copy)]
 pub struct Tasks {
     pub answer: Answer,
     pub end: usize,
@@ -50,20 +50,20 @@ pub struct Tasks {
     pub list: [Task; Job::MAX_TASKS],
 }
 
-#[derive(Drop)]
+#[derive(Clone, Copy)]
 pub struct OneLink {
     pub answer: Answer,
     pub link: Link,
 }
 
-#[derive(Drop)]
+#[derive(Clone, Copy)]
 pub struct Links {
     pub answer: Answer,
     pub count: usize,
     pub list: [Link; Job::MAX_LINKS],
 }
 
-#[derive(Drop)]
+#[derive(Clone, Copy)]
 pub struct JobRead {
     pub answer: Answer,
     pub job: Job,

@@ -1,4 +1,6 @@
 // Job and plan files: their types and limits, the refusals, and reading.
+#![tactic(auto)]
+
 pub mod job;
 pub mod job_file;
 pub mod limits;

@@ -4,7 +4,7 @@ ghost use Rattle.reader.specs.Entries.{empty_plan};
 
 use crate::job::Job;
 
-#[derive(Drop)]
+#[derive(Clone, Copy)]
 pub struct Place {
     pub primary_node: u32,
     pub primary_start: u32,
@@ -12,7 +12,7 @@ pub struct Place {
     pub backup_start: u32,
 }
 
-#[derive(Drop)]
+#[derive(Clone, Copy)]
 pub struct Plan {
     pub version: u32,
     pub task_count: u32,

@@ -3,7 +3,7 @@ ghost use Rattle.std.specs.Prelude.{◌≡◌};
 ghost use Rattle.reader.specs.Refusals.{told, tell, packed, result_number};
 
 // Each case holds its places: byte offsets, tasks, bytes needed, a node, or what is no refusal's: a text's length or a number.
-#[derive(Drop)]
+#[derive(Clone, Copy)]
 pub enum Refusal {
     Short(usize),
     Version(usize),
@@ -30,14 +30,14 @@ pub enum Refusal {
 }
 
 // The answer of a step: done, or the first refusal.
-#[derive(Drop)]
+#[derive(Clone, Copy)]
 pub enum Answer {
     Done,
     Refused(Refusal),
 }
 
 // A row of the table: the refusal's number and both places.
-#[derive(Drop)]
+#[derive(Clone, Copy)]
 pub struct Told {
     pub number: u32,
     pub first: usize,

@@ -1,4 +1,6 @@
 // Replay: what becomes of each copy of a plan, with no loss or with one group lost at a moment.
+#![tactic(auto)]
+
 pub mod inputs;
 pub mod progress;
 pub mod states;
@@ -22,7 +24,7 @@ use reader::plan::Plan;
 use rules::{Loss, Times};
 
 // What replay tells of each task.
-#[derive(Drop)]
+#[derive(Clone, Copy)]
 pub struct Outcomes {
     pub of: [Outcome; Job::MAX_TASKS],
 }

@@ -7,7 +7,7 @@ use reader::job::Job;
 
 // Of each task: its outcome, when and from where its result goes out, once it is settled; and from when its copies have the inputs that
 // the links looked at so far bring. Numbers in arrays of their own, for the turn that looks at a link.
-#[derive(Drop)]
+#[derive(Clone, Copy)]
 pub struct Progress {
     pub of: [Outcome; Job::MAX_TASKS],
     pub at: [u32; Job::MAX_TASKS],

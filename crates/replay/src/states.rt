@@ -13,7 +13,7 @@ use reader::plan::Place;
 use rules::{Copy, Loss, Took};
 
 // The copies of a task, the groups of their nodes, and whether the backup starts late enough for the loss of the primary to be known.
-#[derive(Drop)]
+#[derive(Clone, Copy)]
 pub struct Pair {
     pub primary: Copy,
     pub backup: Copy,
@@ -24,7 +24,7 @@ pub struct Pair {
 
 // The numbers that replay writes of a task: the states of its copies (0 not started, 1 cut, 2 finished), and the finish of the
 // finished copy, or 0.
-#[derive(Drop)]
+#[derive(Clone, Copy)]
 pub struct Outcome {
     pub primary: u32,
     pub backup: u32,

@@ -16,13 +16,13 @@ use reader::plan::{Place, Plan};
 use reader::refusal::{Answer, Refusal};
 use rules::{Times, Took};
 
-#[derive(Drop)]
+#[derive(Clone, Copy)]
 pub struct OneTook {
     pub answer: Answer,
     pub took: Took,
 }
 
-#[derive(Drop)]
+#[derive(Clone, Copy)]
 pub struct TimesRead {
     pub answer: Answer,
     pub times: Times,

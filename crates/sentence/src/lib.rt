@@ -1,4 +1,6 @@
 // Refusals in sentences: printing one, reading one back, and the console's two calls.
+#![tactic(auto)]
+
 ghost use Rattle.std.specs.Prelude.{◌≤◌, ◌≡◌};
 ghost use Rattle.reader.specs.declared.refusal.Answer.TheVariants.{Done};
 ghost use Rattle.reader.specs.Refusals.{told, result_number};
@@ -22,7 +24,7 @@ pub const MAX_SENTENCE: usize = 120;
 pub const LAST_NUMBER: usize = 22;
 
 // What reading a text gives: done, and the refusal whose sentence it is.
-#[derive(Drop)]
+#[derive(Clone, Copy)]
 pub struct Reading {
     pub answer: Answer,
     pub told: Told,

@@ -1,4 +1,6 @@
 // What the rack's console, written in C, calls: thin above the proved core.
+#![tactic(auto)]
+
 ghost use Rattle.std.specs.Prelude.{◌+◌, ◌*◌, ◌≤◌, [], ◌∷◌, ◌≡◌, length, get_or, eqb};
 ghost use Rattle.std.proofs.Math.Option.{none, some};
 ghost use Rattle.reader.specs.declared.job.Job.{Job};

@@ -1,4 +1,6 @@
 // The listing program's text: the plan of a job file line by line, or why there is none.
+#![tactic(auto)]
+
 ghost use Rattle.std.specs.Prelude.{◌+◌, ◌*◌, ◌≤◌, length, get_or};
 ghost use Rattle.reader.specs.Limits.{max_tasks};
 ghost use Rattle.reader.specs.Entries.{no_place};

@@ -1,5 +1,7 @@
 // A trial of a plan: it runs with no loss, and with the group of each primary lost at the tick before that primary's finish. These stand for all
 // moments. What the rack's console calls for it is thin above that.
+#![tactic(auto)]
+
 pub mod passes;
 pub mod runs;
 pub mod words;

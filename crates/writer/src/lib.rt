@@ -1,4 +1,6 @@
 // Writing a job file, and a plan file after its job.
+#![tactic(auto)]
+
 ghost use Rattle.std.specs.Prelude.{◌≡◌, [], ◌∷◌, ◌+◌, ◌*◌, ◌≤◌, min, length, get_or};
 ghost use Rattle.reader.specs.Limits.{max_nodes, max_tasks, max_links, max_job_length, max_plan_length};
 ghost use Rattle.reader.specs.Entries.{no_node, no_task, no_link, no_place};

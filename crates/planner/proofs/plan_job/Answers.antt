@@ -1,0 +1,69 @@
+use Prim.Native.Nat.{◌-◌}
+use mathlib.Core.Path.{refl}
+use native.Mathlib.Omega.{arith}
+use Rattle.reader.specs.Limits.{max_tasks}
+use Rattle.copies.proofs.ListMore.{replicated}
+use Rattle.planner.proofs.SenderLaws.{sendable, sent_start}
+use Rattle.planner.proofs.PeerLaws.{job_groups, peers_start}
+use Rattle.planner.proofs.SentLaws.{into_few}
+use Rattle.planner.proofs.WantLaws.{asked}
+use Rattle.planner.proofs.TaskLaws.{bookable, departing, lays_next, plan_start, plan_more, plan_stop, plan_done}
+use Rattle.planner.proofs.plan_job.Goals as goal
+
+pub by_receiver-requires : goal.by_receiver-requires
+by_receiver-requires c = (sendable _ c.requires, sent_start _ _ _ _ _ refl refl refl refl (replicated 0 max_tasks))
+
+pub by_group-requires : goal.by_group-requires
+by_group-requires c = (job_groups _ c.requires, peers_start _ _ refl)
+
+pub loop-j-init : goal.loop-j-init
+loop-j-init c = plan_start _ _ _ _ _ c.requires c.by_receiver.ensures refl refl refl
+
+pub overflow_cast-into : goal.overflow_cast-into
+overflow_cast-into c =
+    let so_far = c.loop-j.invariant in
+    omega (arith, into_few _ _ _ _ _ so_far.sent _ so_far.sound c.loop-j-test.true)
+
+pub place_task-x-requires : goal.place_task-x-requires
+place_task-x-requires c =
+    let so_far = c.loop-j.invariant in
+    asked _ _ _ _ _ _ _ _ _ _ so_far.sound so_far.sent so_far.beside c.loop-j-test.true _ c.by_group.ensures _
+    c.of-w.ensures
+
+pub returns-in-Nowhere : goal.returns-in-Nowhere
+returns-in-Nowhere c =
+    plan_stop _ _ _ _ _ _ _ c.loop-j.invariant c.loop-j-test.true _ c.by_group.ensures _ c.of-w.ensures _
+    c.place_task-x.ensures _ c.in-Nowhere.is _ c.unplanned.ensures
+
+pub book-requires : goal.book-requires
+book-requires c =
+    bookable _ _ _ _ _ _ _ c.loop-j.invariant c.loop-j-test.true _ c.by_group.ensures _ c.of-w.ensures _
+    c.place_task-x.ensures _ c.in-At.is
+
+pub send_off-requires : goal.send_off-requires
+send_off-requires c =
+    departing _ _ _ _ _ _ _ c.loop-j.invariant c.loop-j-test.true _ c.by_group.ensures _ c.of-w.ensures _
+    c.place_task-x.ensures _ c.in-At.is
+
+pub lay_both-requires : goal.lay_both-requires
+lay_both-requires c =
+    lays_next _ _ _ _ _ _ _ c.loop-j.invariant c.loop-j-test.true _ c.by_group.ensures _ c.of-w.ensures _
+    c.place_task-x.ensures _ c.in-At.is _ c.book.ensures
+
+pub overflow_add-j : goal.overflow_add-j
+overflow_add-j c = omega (arith, c.loop-j-test.true, c.loop-j.invariant.sound.tasks_most)
+
+pub loop-j-smaller : goal.loop-j-smaller
+loop-j-smaller c = omega (arith, c.loop-j-test.true)
+
+pub loop-j-preserved : goal.loop-j-preserved
+loop-j-preserved c =
+    plan_more _ _ _ _ _ _ _ c.loop-j.invariant c.loop-j-test.true _ c.by_group.ensures _ c.of-w.ensures _
+    c.place_task-x.ensures _ c.in-At.is _ c.book.ensures _ _ _ c.send_off.ensures
+    c.lay_both.ensures
+
+pub plan_of-requires : goal.plan_of-requires
+plan_of-requires c = c.loop-j.invariant.sound.tasks_most
+
+pub returns : goal.returns
+returns c = plan_done _ _ _ _ _ _ _ c.loop-j.invariant _ (omega arith) c.plan_of.ensures _ c.all_planned.ensures

@@ -1,0 +1,70 @@
+use Prim.Native.Nat.{◌-◌, ◌<◌}
+use native.Mathlib.Omega.{arith}
+use Rattle.copies.specs.Table.{copy_count}
+use Rattle.planner.proofs.LeapLaws.{sweep_start, sweep_stop, sweep_more, sweep_done, swept_all}
+use Rattle.planner.proofs.search.first_free.Goals as goal
+
+pub overflow_mul-p : goal.overflow_mul-p
+overflow_mul-p c = omega (arith, c.requires.node)
+
+pub overflow_add-to : goal.overflow_add-to
+overflow_add-to c = omega (arith, c.requires.filled.below)
+
+pub loop-p-init : goal.loop-p-init
+loop-p-init c = sweep_start _ _ _ _ _ _ _ c.requires.soon
+
+pub entry_at-k-requires : goal.entry_at-k-requires
+entry_at-k-requires c = omega (arith, c.loop-p-test.true, c.requires.filled.below)
+
+pub offset_bounds-start-k : goal.offset_bounds-start-k
+offset_bounds-start-k c =
+    omega (arith, (let low : c.entry_at-k.result < copy_count = omega (arith, c.entry_at-k.ensures, c.requires.filled.low _ c.loop-p.invariant.swept.low c.loop-p-test.true) in low))
+
+-- in a turn k is an entry
+pub bounds-start-k : goal.bounds-start-k
+bounds-start-k c = omega (arith, c.entry_at-k.ensures, c.requires.filled.low _ c.loop-p.invariant.swept.low c.loop-p-test.true)
+
+pub overflow_add-s : goal.overflow_add-s
+overflow_add-s c = omega (arith, c.loop-p.invariant.soon, c.requires.run)
+
+pub returns-then-s-run : goal.returns-then-s-run
+returns-then-s-run c =
+    record {
+      upper_bound = c.loop-p.invariant.soon;
+      value = swept_all _ _ _ _ _ _ _ _ (sweep_stop _ _ _ _ _ _ _ _ _ _ c.loop-p.invariant c.loop-p-test.true
+          c.entry_at-k.ensures (omega (arith, c.if-s-run.true)));
+    }
+
+pub offset_bounds-sets-k : goal.offset_bounds-sets-k
+offset_bounds-sets-k c =
+    omega (arith, (let low : c.entry_at-k.result < copy_count = omega (arith, c.entry_at-k.ensures, c.requires.filled.low _ c.loop-p.invariant.swept.low c.loop-p-test.true) in low))
+
+pub bounds-sets-k : goal.bounds-sets-k
+bounds-sets-k c =
+    (let low : c.entry_at-k.result < copy_count = omega (arith, c.entry_at-k.ensures, c.requires.filled.low _ c.loop-p.invariant.swept.low c.loop-p-test.true) in low)
+
+pub offset_bounds-finish-k : goal.offset_bounds-finish-k
+offset_bounds-finish-k c =
+    omega (arith, (let low : c.entry_at-k.result < copy_count = omega (arith, c.entry_at-k.ensures, c.requires.filled.low _ c.loop-p.invariant.swept.low c.loop-p-test.true) in low))
+
+pub bounds-finish-k : goal.bounds-finish-k
+bounds-finish-k c =
+    (let low : c.entry_at-k.result < copy_count = omega (arith, c.entry_at-k.ensures, c.requires.filled.low _ c.loop-p.invariant.swept.low c.loop-p-test.true) in low)
+
+pub overflow_add-p : goal.overflow_add-p
+overflow_add-p c = omega (arith, c.loop-p-test.true, c.requires.filled.below)
+
+pub loop-p-smaller : goal.loop-p-smaller
+loop-p-smaller c = omega (arith, c.loop-p-test.true)
+
+pub loop-p-preserved : goal.loop-p-preserved
+loop-p-preserved c =
+    sweep_more _ _ _ _ _ _ _ _ _ _ c.loop-p.invariant c.loop-p-test.true c.entry_at-k.ensures
+    c.if-s-run.false c.requires.ends _ _ c.pick.ensures c.later-s.ensures
+
+pub returns : goal.returns
+returns c =
+    record {
+      upper_bound = c.loop-p.invariant.soon;
+      value = swept_all _ _ _ _ _ _ _ _ (sweep_done _ _ _ _ _ _ _ _ _ c.loop-p.invariant c.loop-p-test.false);
+    }

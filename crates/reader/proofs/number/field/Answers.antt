@@ -1,0 +1,5 @@
+use mathlib.Core.Path.{refl}
+use Rattle.reader.proofs.number.field.Goals as goal
+
+pub returns : goal.returns
+returns c = c.field_of_part.ensures _ refl

@@ -1,0 +1,9 @@
+use Prim.Native.Nat.{◌-◌}
+use Rattle.replay.proofs.TimesFileLaws.{TimesTo}
+use Rattle.replay.proofs.times_file.read_times.Given as goal
+
+abbrev pub invariant-loop-j : goal.invariant-loop-j
+invariant-loop-j l = TimesTo l.file l.job l.plan l.j l.of
+
+abbrev pub decreases-loop-j : goal.decreases-loop-j
+decreases-loop-j l = l.n - l.j

@@ -1,0 +1,5 @@
+use Rattle.seqopchi.proofs.ReadLaws.{given}
+use Rattle.seqopchi.proofs.seqopchi_fault_sets.Goals as goal
+
+pub returns : goal.returns
+returns c = given c.sets_files.ensures c.result.ensures

@@ -1,0 +1,7 @@
+use Rattle.reader.specs.First.{when}
+use Rattle.seqopchi.proofs.ReadLaws.{given}
+use Rattle.seqopchi.proofs.seqopchi_replay.Goals as goal
+
+pub returns : goal.returns
+unfolding when
+returns c = given c.replay_files.ensures c.result.ensures

@@ -1,0 +1,29 @@
+use Rattle.text.proofs.PrintLaws.{prints_same}
+use Rattle.text.proofs.ListingLaws.{fault_listed, job_sound, refusal_listed, plan_listed, few_tasks}
+use borrow.Author.Rules.{rules}
+use Rattle.text.proofs.list_job.Goals as goal
+
+pub returns-in-Refused : goal.returns-in-Refused
+returns-in-Refused c =
+    (c.put_refusal.ensures.0, prints_same (fault_listed _ _ c.read_job-read.ensures c.in-Refused.is) c.put_refusal.ensures.1)
+
+pub plan_job-planned-requires : goal.plan_job-planned-requires
+plan_job-planned-requires c = job_sound _ _ c.read_job-read.ensures c.in_default.is
+
+pub returns-in-Refused-no_place : goal.returns-in-Refused-no_place
+returns-in-Refused-no_place c = (
+  c.put_refusal-in-Refused-no_place.ensures.0,
+  prints_same (refusal_listed _ _ c.read_job-read.ensures c.in_default.is _ c.plan_job-planned.ensures c.in-Refused-no_place.is)
+      c.put_refusal-in-Refused-no_place.ensures.1,
+)
+
+pub put_plan-requires : goal.put_plan-requires
+put_plan-requires c =
+    (few_tasks _ _ c.read_job-read.ensures c.in_default.is _ c.plan_job-planned.ensures c.in_default-no_place.is, search rules)
+
+pub returns : goal.returns
+returns c = (
+  c.put_plan.ensures.0,
+  prints_same (plan_listed _ _ c.read_job-read.ensures c.in_default.is _ c.plan_job-planned.ensures c.in_default-no_place.is)
+      c.put_plan.ensures.1,
+)

@@ -1,0 +1,34 @@
+use native.Mathlib.Omega.{arith}
+use mathlib.Core.List.{[]}
+use lib.Dec.{leb}
+use Rattle.reader.specs.Limits.{send_since}
+use Rattle.reader.specs.Fields.{node_fields, reaches, width_if, held_if, width, held}
+use Rattle.reader.specs.JobFile.{node_width}
+use Rattle.writer.specs.Write.{node_numbers}
+use Rattle.writer.proofs.PutLaws.{puts_then, puts_if, puts_end}
+use Rattle.writer.proofs.HeldLaws.{if_width}
+use Rattle.writer.proofs.put_node.Goals as goal
+
+pub put-then-requires : goal.put-then-requires
+unfolding node_width node_fields reaches width width_if
+put-then-requires c = omega (arith, c.requires)
+
+pub put_if-last-requires : goal.put_if-last-requires
+unfolding node_width node_fields reaches width width_if
+put_if-last-requires c =
+    let detect = c.put-then.ensures in
+    omega (arith, detect.behind, detect.size, c.requires)
+
+pub put_if-requires : goal.put_if-requires
+unfolding node_width node_fields reaches width width_if
+put_if-requires c =
+    let send = c.put_if-last.ensures in
+    let detect = c.put-then.ensures in
+    omega (arith, puts_end (if_width _ _ []) send, send.size, detect.behind, detect.size, c.requires)
+
+pub returns : goal.returns
+unfolding node_numbers node_fields reaches held held_if
+returns c =
+    let args = c.args in
+    puts_then c.put-then.ensures
+    (puts_if (leb send_since args.version) args.node.send c.put_if-last.ensures c.put_if.ensures)

@@ -1,0 +1,9 @@
+use native.Mathlib.Omega.{arith}
+use Rattle.writer.specs.Write.{plan_numbers}
+use Rattle.writer.proofs.PutLaws.{puts_then}
+use Rattle.writer.proofs.put_plan.Goals as goal
+
+pub returns : goal.returns
+unfolding plan_numbers
+returns c =
+    (omega arith, rw c.clip-n.ensures at (puts_then c.put-at.ensures (puts_then c.put-at-2.ensures c.put_places.ensures.puts)))
