@@ -1,7 +1,7 @@
 -- The fixed phrases of request (xi): for each number of the tables its word, and what its sentence says around the places.
 use Rattle.std.specs.Prelude.{ℕ, ◌-◌, Bool, false, List, [], ◌∷◌, leb, eqb, get_or}
 use Prim.Native.Char.{code}
-use Prim.Native.String.{String, [] as nothing, ◌∷◌ as ◌followed-by◌}
+use Prim.Native.String.{String, [] as nothing, ◌∷◌ as ◌followed_by◌}
 use Rattle.reader.specs.Tests.{◌and◌}
 
 -- the bytes of a phrase

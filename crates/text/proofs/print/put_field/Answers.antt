@@ -12,9 +12,10 @@ bounds-d-end c = omega (arith, digits_most c.args.v (omega arith), c.put_decimal
 
 pub overflow_add-result : goal.overflow_add-result
 overflow_add-result c =
-    let r = (omega (arith, digits_most c.args.v (omega arith), c.put_decimal-end.ensures.behind, c.put_decimal-end.ensures.size)) in omega arith
+    omega (arith, digits_most c.args.v (omega arith), c.put_decimal-end.ensures.behind, c.put_decimal-end.ensures.size)
 
 pub returns : goal.returns
 unfolding field
 returns c =
-    (omega (arith, digits_most c.args.v (omega arith)), prints_then c.put_decimal-end.ensures (prints_byte _ _ _ ((omega (arith, digits_most c.args.v (omega arith), c.put_decimal-end.ensures.behind, c.put_decimal-end.ensures.size)))))
+    let most = digits_most c.args.v (omega arith) in
+    (omega (arith, most), prints_then c.put_decimal-end.ensures (prints_byte _ _ _ (omega (arith, most, c.put_decimal-end.ensures.behind, c.put_decimal-end.ensures.size))))
