@@ -112,8 +112,8 @@ unfolding tabled ◌and◌
 table_high n h = rw (le-leb 1 n h)
 
 -- a test that a function told, where `if !` of it was left
-pub told_true : {b t : Bool} → b ≡ t → not b ≡ false → t ≡ true
-told_true {b} e h = sym e ∙ not_x b h
+pub told_true : {b t : Bool} → b ≡ t → b ≡ true → t ≡ true
+told_true e h = sym e ∙ h
 
 pub in_tables : (n : ℕ) → 1 ≤ n → n ≤ last_number → tabled n ≡ true
 unfolding tabled

@@ -6,7 +6,7 @@ use Rattle.sentence.proofs.PrintedLaws.{printed_part, print_untabled, print_shor
 use Rattle.sentence.proofs.print_sentence.Goals as goal
 
 pub returns-then-not-is_tabled : goal.returns-then-not-is_tabled
-returns-then-not-is_tabled c = print_untabled _ _ (sym c.is_tabled.ensures ∙ not-true _ c.if-not-is_tabled.true)
+returns-then-not-is_tabled c = print_untabled _ _ (sym c.is_tabled.ensures ∙ c.if-not-is_tabled.true)
 
 pub put_sentence-need-requires : goal.put_sentence-need-requires
 put_sentence-need-requires c =

@@ -8,7 +8,7 @@ use Rattle.sentence.proofs.read_sentence.Goals as goal
 pub returns-then-not-is_tabled : goal.returns-then-not-is_tabled
 returns-then-not-is_tabled c =
     let w = shown_by c.find-number.ensures c.find-first.ensures c.find-second.ensures in
-    c.not_a_sentence.ensures ∙ read_untabled w (sym c.is_tabled.ensures ∙ not-true _ c.if-not-is_tabled.true)
+    c.not_a_sentence.ensures ∙ read_untabled w (sym c.is_tabled.ensures ∙ c.if-not-is_tabled.true)
 
 pub overflow_cast-shown : goal.overflow_cast-shown
 overflow_cast-shown c = omega (arith, tabled_most _ (told_true c.is_tabled.ensures c.if-not-is_tabled.false))
