@@ -9,7 +9,7 @@ use Rattle.reader.specs.declared.refusal.Refusal.{Refusal}
 use Rattle.reader.specs.declared.refusal.Refusal.TheVariants.{Stale}
 use Rattle.reader.specs.declared.refusal.Answer.{Answer}
 use Rattle.reader.specs.declared.refusal.Answer.TheVariants.{Done, Refused}
-use Rattle.reader.specs.Entries.{tasks, place}
+use Rattle.reader.specs.Entries.{tasks}
 use Rattle.reader.specs.Sound.{Sound, PlanSound}
 use Rattle.reader.proofs.RefusalLaws.{answered_done, answered_refused}
 use Rattle.rules.specs.declared.Description.{Description}

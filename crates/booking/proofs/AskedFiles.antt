@@ -14,7 +14,7 @@ use Rattle.reader.proofs.RefusalLaws.{answered_done}
 use Rattle.rules.specs.declared.Description.{Description}
 use Rattle.rules.specs.Description.{NewSound, PlaceSound, Room, full_fault}
 use Rattle.rules.specs.Judge.{judge}
-use Rattle.rules.specs.Attempts.{Attempt, refused, placed}
+use Rattle.rules.specs.Attempts.{Attempt, placed}
 use Rattle.rules.specs.Planner.{planner}
 use Rattle.rules.specs.Longer.{longer_job, longer_plan}
 use Rattle.rules.specs.Asking.{ask, Booked, longer, commit}

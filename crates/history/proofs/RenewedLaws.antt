@@ -22,7 +22,7 @@ use Rattle.writer.proofs.FilledJob.{RunFilled, Filled}
 use Rattle.history.specs.declared.window.Timing.{Timing}
 use Rattle.history.specs.declared.window.Window.{Window}
 use Rattle.history.specs.Log.{records, record_at, log_fault}
-use Rattle.history.specs.Times.{ticks_on, or_else_run, afresh, window_size, kept, newest, log_time, renewed_task, renewed}
+use Rattle.history.specs.Times.{ticks_on, or_else_run, afresh, window_size, kept, log_time, renewed_task, renewed}
 use Rattle.history.specs.Window.{cell_of, Seen}
 use Rattle.history.specs.Ring.{Formed, Holding}
 use Rattle.history.specs.Promise.{table_time}

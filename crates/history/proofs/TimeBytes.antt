@@ -29,7 +29,7 @@ use Rattle.seqopchi.specs.Unpacks.{Unpacks}
 use Rattle.seqopchi.proofs.Unpacked.{unpacks}
 use Rattle.seqopchi.proofs.KeptBytes.{refused_kept, done_beyond}
 use Rattle.history.specs.Log.{timing_fault, records, log_fault}
-use Rattle.history.specs.Times.{log_time, table_numbers, table_length, renewed}
+use Rattle.history.specs.Times.{log_time, table_numbers, table_length}
 use Rattle.history.specs.Calls.{call_fault, table_fault, table_bytes, run_times, renew_fault, renewed_in, renew_job}
 use Rattle.history.specs.Newest.{RenewedFile}
 use Rattle.history.proofs.TableLaws.{length_row}

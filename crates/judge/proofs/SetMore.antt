@@ -5,7 +5,7 @@ use mathlib.Core.Path.{◌≡◌, refl, ◌∙◌, ap}
 use lib.Bits.{bit_and, bit_or}
 use lib.Dec.{eqb}
 use borrow.Author.Tests.{eq-eqb}
-use Rattle.reader.specs.Tests.{◌and◌, ◌or◌}
+use Rattle.reader.specs.Tests.{◌and◌}
 use Rattle.reader.proofs.TestLaws.{split, clash, or_l, or_r, not_true}
 use Rattle.copies.specs.Sets.{has, meets}
 use Rattle.copies.proofs.SetLaws.{has_union, has_one, meets_i}

@@ -15,7 +15,7 @@ use Rattle.reader.specs.declared.refusal.Refusal.TheVariants.{NoPrimary, NoBacku
 use Rattle.reader.specs.Tests.{◌and◌, ◌implies◌}
 use Rattle.reader.specs.First.{every, when}
 use Rattle.reader.specs.Limits.{max_nodes, max_group, max_time, max_start}
-use Rattle.reader.specs.Entries.{nodes, tasks, links, link, task, deadline, detect, run, no_node}
+use Rattle.reader.specs.Entries.{nodes, tasks, links, link, task, run, no_node}
 use Rattle.reader.specs.Sound.{Sound}
 use Rattle.reader.proofs.TestLaws.{split, clash, not_i, not_e, not_true, and_yes, and_no, and_join}
 use Rattle.reader.proofs.FirstLaws.{first_same, every_same}

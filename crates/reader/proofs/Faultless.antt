@@ -8,7 +8,6 @@ use lib.ListN.{length, get_or}
 use borrow.Author.Tests.{le-leb, lt-ltb}
 use Rattle.reader.specs.declared.job.Link.{Link}
 use Rattle.reader.specs.declared.job.Job.{Job}
-use Rattle.reader.specs.Entries.{tasks}
 use Rattle.reader.specs.Number.{number_at}
 use Rattle.reader.specs.JobFile.{nodes_fault, run_fault, task_fault, tasks_fault, link_fault, links_fault, tail_fault, job_fault}
 use Rattle.reader.specs.PlanFile.{node_fault, place_fault, places_fault, plan_fault}

@@ -14,7 +14,7 @@ use Rattle.reader.specs.declared.plan.Plan.{Plan}
 use Rattle.reader.specs.declared.refusal.Refusal.TheVariants.{NoPrimary, NoBackup}
 use Rattle.reader.specs.Tests.{◌and◌, ◌or◌, ◌implies◌}
 use Rattle.reader.specs.First.{first, when, every}
-use Rattle.reader.specs.Entries.{tasks, links, task, ready, deadline, run, link, place}
+use Rattle.reader.specs.Entries.{tasks, links, task, ready, link, place}
 use Rattle.reader.proofs.FirstLaws.{any_same, every_same}
 use Rattle.rules.specs.declared.Copy.{Copy}
 use Rattle.rules.specs.Tables.{put, grow}

@@ -7,7 +7,7 @@ use borrow.Author.Tests.{leb-true, leb-false, le-leb, eqb-true, eq-eqb}
 use native.Mathlib.Nat.{not-suc-le-zero}
 use native.Mathlib.Omega.{arith}
 use Rattle.reader.specs.declared.job.Job.{Job}
-use Rattle.reader.specs.Tests.{◌and◌, ◌or◌, ◌implies◌}
+use Rattle.reader.specs.Tests.{◌and◌, ◌implies◌}
 use Rattle.reader.specs.First.{every}
 use Rattle.reader.specs.Entries.{tasks, links, deadline, link}
 use Rattle.reader.specs.Sound.{Sound}

@@ -10,7 +10,7 @@ use Rattle.reader.specs.declared.plan.Plan.{Plan}
 use Rattle.rules.specs.declared.Description.{Description}
 use Rattle.reader.specs.Limits.{max_tasks, max_links}
 use Rattle.reader.specs.Entries.{nodes, tasks, links, task, link, place, blank_task, no_task, no_link, no_place}
-use Rattle.reader.specs.Sound.{below, Sound, SoundPlace, PlanSound}
+use Rattle.reader.specs.Sound.{Sound, SoundPlace, PlanSound}
 use Rattle.rules.specs.Description.{new_links, new_link, NewTask, NewSound, PlaceSound, Room}
 use Rattle.reader.proofs.TestLaws.{below_suc}
 use Rattle.reader.proofs.FillLaws.{fill_get}

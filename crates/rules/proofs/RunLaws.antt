@@ -6,7 +6,6 @@ use borrow.Author.Tests.{leb-true}
 use native.Mathlib.Nat.{not-suc-le-zero}
 use native.Mathlib.Omega.{arith}
 use Rattle.reader.specs.declared.job.Job.{Job}
-use Rattle.reader.specs.Tests.{◌and◌, ◌or◌}
 use Rattle.reader.specs.Entries.{tasks, links, link}
 use Rattle.reader.specs.Sound.{Sound}
 use Rattle.reader.proofs.TestLaws.{clash, not_true, and_l, and_r, and_i, or_l, or_e, not_e}

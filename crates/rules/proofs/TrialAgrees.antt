@@ -8,7 +8,6 @@ use Rattle.reader.specs.declared.job.Job.{Job}
 use Rattle.reader.specs.declared.plan.Plan.{Plan}
 use Rattle.reader.specs.declared.refusal.Refusal.{Refusal}
 use Rattle.reader.specs.declared.refusal.Answer.TheVariants.{Done, Refused}
-use Rattle.reader.specs.Tests.{◌and◌}
 use Rattle.reader.specs.Entries.{tasks}
 use Rattle.reader.specs.Refusals.{tell}
 use Rattle.reader.specs.Sound.{Sound, PlanSound}

@@ -1,5 +1,5 @@
 -- Request (i): a plan that passed under E of document 01 passes, and a judge or planner that asks more or less is told from ours.
-use Prim.Native.Nat.{ℕ, ◌≤◌, ◌<◌}
+use Prim.Native.Nat.{ℕ, ◌≤◌}
 use mathlib.Core.Bool.{true}
 use mathlib.Core.Path.{◌≡◌, refl, sym, ◌∙◌, ap, subst}
 use mathlib.Core.Option.{none}

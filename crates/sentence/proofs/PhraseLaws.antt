@@ -1,6 +1,6 @@
 -- Laws of the fixed phrases: what one computed test over all rows says of each.
 use Prim.Native.Nat.{ℕ, zero, suc, ◌+◌, ◌-◌, ◌≤◌, ◌<◌}
-use mathlib.Core.Bool.{Bool, true, false, not}
+use mathlib.Core.Bool.{Bool, true, false}
 use mathlib.Core.Path.{◌≡◌, refl, sym, ◌∙◌}
 use mathlib.Core.List.{List, [], ◌∷◌, ◌++◌}
 use lib.Dec.{leb}
@@ -10,7 +10,7 @@ use borrow.Author.Tests.{leb-true, le-leb, lt-leb}
 use Rattle.reader.specs.declared.refusal.Refusal.{Refusal}
 use Rattle.reader.specs.Tests.{◌and◌}
 use Rattle.reader.specs.Refusals.{tell}
-use Rattle.reader.proofs.TestLaws.{and_l, and_r, and_i, not_x}
+use Rattle.reader.proofs.TestLaws.{and_l, and_r, and_i}
 use Rattle.reader.proofs.PackingLaws.{tell_number}
 use Rattle.decimal.specs.Numbers.{is_digit}
 use Rattle.decimal.proofs.FoundLaws.{digitless, walled}

@@ -1,9 +1,6 @@
-use Prim.Native.Nat.{◌-◌, ◌<◌}
 use native.Mathlib.Omega.{arith}
-use Rattle.reader.specs.Limits.{max_tasks}
 use Rattle.replay.proofs.RunLaws.{upto_start, upto_sent, upto_settled, upto_done, task_fits, to_fits, node_below, sent_fits}
 use Rattle.replay.proofs.PairLaws.{pair_groups, fits, picked_fits, picked_pair}
-use borrow.Author.Rules.{rules}
 use Rattle.replay.proofs.replay_plan.Goals as goal
 use Rattle.replay.proofs.replay_plan.Goals.{then-k-m+else-i-j, else-k-m}
 

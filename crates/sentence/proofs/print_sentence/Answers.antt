@@ -1,6 +1,5 @@
 use mathlib.Core.Path.{sym, ◌∙◌}
 use native.Mathlib.Omega.{arith}
-use borrow.Author.Tests.{not-true}
 use Rattle.sentence.proofs.PhraseLaws.{told_true}
 use Rattle.sentence.proofs.PrintedLaws.{printed_part, print_untabled, print_short, print_done}
 use Rattle.sentence.proofs.print_sentence.Goals as goal

@@ -1,6 +1,5 @@
 use mathlib.Core.Path.{sym, ◌∙◌}
 use native.Mathlib.Omega.{arith}
-use borrow.Author.Tests.{not-true}
 use Rattle.sentence.proofs.PhraseLaws.{told_true, tabled_most}
 use Rattle.sentence.proofs.ReadLaws.{shown_by, read_untabled, one_tabled, read_one, two_tabled, read_two, read_none}
 use Rattle.sentence.proofs.read_sentence.Goals as goal

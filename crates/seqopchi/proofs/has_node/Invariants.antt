@@ -3,7 +3,6 @@ use mathlib.Core.Bool.{false}
 use mathlib.Core.Path.{◌≡◌}
 use lib.Dec.{eqb}
 use lib.ListN.{get_or}
-use Rattle.reader.specs.Tests.{◌or◌}
 use Rattle.reader.specs.First.{any}
 use Rattle.reader.specs.Entries.{no_node}
 use Rattle.seqopchi.proofs.has_node.Given as goal

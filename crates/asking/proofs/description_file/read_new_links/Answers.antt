@@ -1,5 +1,4 @@
 -- The links of a description: their count, then each behind the one before it.
-use Prim.Native.Nat.{◌-◌}
 use mathlib.Core.Path.{refl, ◌∙◌}
 use native.Mathlib.Omega.{arith}
 use Rattle.asking.specs.DescriptionFile.{new_link_before, new_links_fault, new_links_at}

@@ -1,4 +1,3 @@
-use Prim.Native.Nat.{◌-◌}
 use native.Mathlib.Omega.{arith}
 use Rattle.decimal.proofs.PrintLaws.{prints_none, prints_at, text_more, text_whole}
 use Rattle.decimal.proofs.print.put_text.Goals as goal

@@ -1,4 +1,3 @@
-use Prim.Native.Nat.{◌-◌}
 use native.Mathlib.Omega.{arith}
 use Rattle.history.proofs.LogLaws.{log_start, log_stop, log_more, log_cut, log_done}
 use Rattle.history.proofs.log.read_log.Goals as goal

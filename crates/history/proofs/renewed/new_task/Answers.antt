@@ -1,4 +1,3 @@
-use Prim.Native.Nat.{◌-◌}
 use native.Mathlib.Omega.{arith}
 use Rattle.reader.proofs.FillLaws.{fill_none, filled_more}
 use Rattle.history.proofs.TableLaws.{row_done}

@@ -1,4 +1,3 @@
-use Prim.Native.Nat.{◌-◌}
 use native.Mathlib.Omega.{arith}
 use Rattle.reader.proofs.FillLaws.{fill_none}
 use Rattle.history.proofs.TableLaws.{tasks_more, tasks_done}

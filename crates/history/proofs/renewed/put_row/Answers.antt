@@ -1,4 +1,3 @@
-use Prim.Native.Nat.{◌-◌}
 use native.Mathlib.Omega.{arith}
 use Rattle.history.proofs.TableLaws.{row_start, row_more, row_end}
 use Rattle.history.proofs.renewed.put_row.Goals as goal

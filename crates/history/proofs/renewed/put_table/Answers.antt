@@ -1,4 +1,3 @@
-use Prim.Native.Nat.{◌-◌}
 use native.Mathlib.Omega.{arith}
 use Rattle.history.proofs.TableLaws.{table_start, table_room, table_more, table_done}
 use Rattle.history.proofs.renewed.put_table.Goals as goal

@@ -1,4 +1,3 @@
-use Prim.Native.Nat.{◌-◌}
 use native.Mathlib.Omega.{arith}
 use Rattle.history.proofs.SeenLaws.{seen_start, seen_more, seen_done}
 use Rattle.history.proofs.window.largest.Goals as goal

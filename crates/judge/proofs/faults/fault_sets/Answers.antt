@@ -1,4 +1,3 @@
-use Prim.Native.Nat.{◌-◌}
 use native.Mathlib.Omega.{arith}
 use Rattle.judge.proofs.GatherLaws.{fill_start, fill_more, fill_done}
 use Rattle.judge.proofs.faults.fault_sets.Goals as goal

@@ -1,4 +1,3 @@
-use Prim.Native.Nat.{◌-◌}
 use native.Mathlib.Omega.{arith}
 use Rattle.judge.proofs.NoteLaws.{seen_last, seen_done}
 use Rattle.judge.proofs.LinkLaws.{walk_start, walk_more, walk_done, primary_fits, backup_fits, primary_index}

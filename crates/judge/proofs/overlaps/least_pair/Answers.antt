@@ -1,4 +1,3 @@
-use Prim.Native.Nat.{◌-◌}
 use native.Mathlib.Omega.{arith}
 use Rattle.judge.proofs.SweepLaws.{nodes_start, nodes_more, nodes_done}
 use Rattle.judge.proofs.overlaps.least_pair.Goals as goal

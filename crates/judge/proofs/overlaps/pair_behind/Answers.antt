@@ -1,4 +1,4 @@
-use Prim.Native.Nat.{◌-◌, ◌<◌}
+use Prim.Native.Nat.{◌<◌}
 use native.Mathlib.Omega.{arith}
 use Rattle.copies.specs.Table.{copy_count}
 use Rattle.copies.proofs.SpotLaws.{swept_start}

@@ -1,4 +1,3 @@
-use Prim.Native.Nat.{◌-◌}
 use native.Mathlib.Omega.{arith}
 use Rattle.copies.proofs.SpotLaws.{swept_start}
 use Rattle.judge.proofs.SweepLaws.{within_next, within_more, within_done}

@@ -1,4 +1,3 @@
-use Prim.Native.Nat.{◌-◌}
 use native.Mathlib.Omega.{arith}
 use Rattle.planner.proofs.PeerLaws.{peers_more, peers_done}
 use Rattle.planner.proofs.faults.by_group.Goals as goal

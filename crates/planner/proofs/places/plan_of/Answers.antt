@@ -1,4 +1,3 @@
-use Prim.Native.Nat.{◌-◌}
 use native.Mathlib.Omega.{arith}
 use Rattle.planner.proofs.ListLaws.{list_start, list_more, list_done}
 use Rattle.planner.proofs.places.plan_of.Goals as goal

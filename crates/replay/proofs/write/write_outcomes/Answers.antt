@@ -1,4 +1,3 @@
-use Prim.Native.Nat.{◌-◌}
 use native.Mathlib.Omega.{arith}
 use Rattle.replay.proofs.WriteLaws.{written_start, written_more, written_done}
 use Rattle.replay.proofs.write.write_outcomes.Goals as goal

@@ -1,7 +1,5 @@
-use Prim.Native.Nat.{◌-◌, ◌<◌}
 use mathlib.Core.Path.{refl}
 use native.Mathlib.Omega.{arith}
-use Rattle.reader.specs.Limits.{max_tasks}
 use Rattle.rules.specs.Survival.{primary, backup}
 use Rattle.trial.proofs.PlacedLaws.{sendable, settleable, node_low, node_of}
 use Rattle.trial.proofs.UptoLaws.{upto_start, upto_sent, upto_settled, upto_done}

@@ -1,4 +1,3 @@
-use Prim.Native.Nat.{◌-◌}
 use mathlib.Core.Path.{◌∙◌, ap₂}
 use mathlib.Core.Bool.{cond}
 use native.Mathlib.Omega.{arith}
