@@ -1,5 +1,5 @@
 /* seqopchi: the command line over judge, trial, planner, replay, fault sets, booking,
- * run times from the last runs and refusals as sentences. */
+ * run times from the last runs and the reading of refusals' sentences. */
 #include "commands.h"
 
 #include "seqopchi.h"
@@ -9,7 +9,7 @@
 #include <stdio.h>
 #include <string.h>
 
-#define TOOL_VERSION "1.9"
+#define TOOL_VERSION "1.8"
 
 enum {
     OUTPUT = 1, OUTPUT_DUE = 2, LOSS = 4, JOB = 8, TWO_OUTPUTS = 16, PLAN = 32,
@@ -115,10 +115,10 @@ static const struct command commands[] = {
       "be JOB. show JOB --new JOB2 compares both.\n" },
     { "explain", run_explain, 1, 1, OUTPUT | SENTENCE, "explain SENTENCE",
       "tell what a refusal means",
-      "Reads back the sentence of a refusal, the first line that it has on standard\n"
-      "error: prints 'refused', its number and both places, then when it is given\n"
-      "and what the places are. SENTENCE is one word, in quotes; - reads the first\n"
-      "line of standard input. A text that is no refusal's sentence, to the byte, is\n"
+      "Reads back the sentence of a refusal, as the library's seqopchi_sentence has\n"
+      "it: prints 'refused', its number and both places, then when it is given and\n"
+      "what the places are. SENTENCE is one word, in quotes; - reads the first line\n"
+      "of standard input. A text that is no refusal's sentence, to the byte, is\n"
       "refused.\n" },
 };
 
@@ -126,9 +126,9 @@ enum { COMMANDS = sizeof commands / sizeof commands[0] };
 
 static const char closing[] =
     "\nFILES named - are standard input or output. An output file appears whole\n"
-    "or not at all. Exit status: 0 success; 1 refused, with its sentence on standard\n"
-    "error, which explain reads back, and a line on the file at fault; 2 wrong usage,\n"
-    "or a file that could not be read or written; 3 the trial says no.\n";
+    "or not at all. Exit status: 0 success; 1 refused, with the reason on standard\n"
+    "error; 2 wrong usage, or a file that could not be read or written; 3 the trial\n"
+    "says no.\n";
 
 static int print(struct buffer *b)
 {

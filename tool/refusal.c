@@ -345,6 +345,9 @@ static void add_refusal(struct buffer *b, uint64_t result, const struct given *g
         add_no_such_node(b, g->job, first);
     else if (number == SEQOPCHI_REFUSED_FULL)
         add_full(b, g, first);
+    else if (number == SEQOPCHI_REFUSED_NOT_A_SENTENCE)
+        buffer_print(b, "the text is no refusal's sentence; its length is %u",
+                     (unsigned)first);
     else
         buffer_print(b, "the output needs %u bytes", (unsigned)first);
 }

@@ -1,4 +1,59 @@
-# Tests of refusals as sentences and of explain, a part of test.sh. What the other tests refuse is held to the sentences here, too.
+#!/usr/bin/env bash
+# Tests of explain, beside test.sh: tool/test_sentence.sh TOOL. TOOL is built with sanitizers, which end it with status 99 at a fault of its own.
+set -u
+
+tool=$(realpath "$1")
+work=$(mktemp -d)
+trap 'rm -rf "$work"' EXIT
+cd "$work" || exit 2
+export LC_ALL=C ASAN_OPTIONS=exitcode=99 UBSAN_OPTIONS=exitcode=99:print_stacktrace=1
+
+passed=0 failed=0 # checks
+status=0          # of the last run; its output is in the files out and err
+
+run() {
+    "$tool" "$@" >out 2>err </dev/null
+    status=$?
+}
+
+check() { # check WHAT COMMAND..: whether the command succeeds
+    local what=$1
+    shift
+    if "$@"; then
+        passed=$((passed + 1))
+    else
+        failed=$((failed + 1))
+        echo "FAILED: $what (status $status)"
+        head -n 20 out err
+    fi
+}
+
+content=''
+read_file() { # into content, without the last line end; no process is started
+    IFS= read -r -d '' content <"$1"
+    content=${content%$'\n'}
+}
+
+has() { read_file "$1"; [[ $content == *"$2"* ]]; }
+is() { read_file "$1"; [[ $content == "$2" ]]; }
+ended() { [[ $status -eq $1 ]]; }
+
+good() { # good WORDS..: succeeds and complains of nothing
+    run "$@"
+    check "good: $*" ended 0
+    check "quiet: $*" is err ''
+}
+
+wrong() { # wrong WORDS-IN-MESSAGE WORDS..: usage, reading or writing
+    local text=$1
+    shift
+    run "$@"
+    check "wrong: $*" ended 2
+    check "message '$text': $*" has err "$text"
+    check "no output: $*" is out ''
+}
+
+# --- sentences --------------------------------------------------------------------
 
 # By number; @1 and @2 are the places.
 word_of=(- short version count value 'link order' tail unable 'same node' early late 'primary unfed' 'backup unfed' 'common loss' overlap
@@ -41,22 +96,6 @@ say() { # say NUMBER FIRST SECOND: the sentence, into said
     said="Refused $1, ${word_of[$1]}: ${phrase/@2/$3}."
 }
 
-# Sets said, the sentence; told, with the line that is due behind it; parts, number and places.
-refusal='^([0-9]+) \(([a-z ]+)\) ([0-9]+)( ([0-9]+))?(: (.+))?$'
-take_refusal() { # take_refusal 'NUMBER (WORD) FIRST [SECOND][: LINE]'
-    local number first second usual
-    if [[ ! $1 =~ $refusal || ${word_of[BASH_REMATCH[1]]} != "${BASH_REMATCH[2]}" ]]; then
-        said='' told="no refusal: $1" parts=''
-        return
-    fi
-    number=${BASH_REMATCH[1]} first=${BASH_REMATCH[3]} second=${BASH_REMATCH[5]}
-    told=${BASH_REMATCH[7]:+$'\n'${BASH_REMATCH[7]}}
-    usual_second "$number" "$first"
-    parts="$number $first ${second:-$usual}"
-    say $parts
-    told=$said$told
-}
-
 declare -A back # by sentence: the first line that explain prints of it
 read_back() { # read_back SENTENCE: each is tried once
     local shown
@@ -68,19 +107,6 @@ read_back() { # read_back SENTENCE: each is tried once
 reads_back() { # reads_back SENTENCE PARTS: explain gives number and places
     read_back "$1"
     [[ ${back[$1]} == "refused $2" ]]
-}
-
-# A sentence, and behind it the line that names the file of a fault, or the job that a loss takes no node of.
-sentence=$'^(Refused ([0-9]+), [a-z ]+: [^.\n]+\\.)(\nin \'[^\n]+)?$'
-is_refusal() { # whether content is such: explain reads back number and places, and their sentence is this one; sets said
-    local number line text
-    [[ $content =~ $sentence ]] || return
-    text=${BASH_REMATCH[1]} number=${BASH_REMATCH[2]} line=${BASH_REMATCH[3]}
-    if [[ $number -lt 8 || $number -eq 18 ]]; then [[ -n $line ]]; else [[ -z $line ]]; fi || return
-    read_back "$text"
-    [[ ${back[$text]} =~ ^refused\ $number\ ([0-9]+)\ ([0-9]+)$ ]] || return
-    say "$number" "${BASH_REMATCH[1]}" "${BASH_REMATCH[2]}"
-    [[ $said == "$text" ]]
 }
 
 # --- read back --------------------------------------------------------------------
@@ -123,7 +149,6 @@ explain_tests() {
     explains '21 12 12' 'Refused 21, stale: the place for task 12 now breaks a rule; ask again.' 'new task 12' 'new task 12 again'
     explains '22 5 0' 'Refused 22, not a sentence: no refusal has it; its length or number: 5.' 'length of the text, or that number: 5' 'not used'
     explain_place_tests
-    explain_refusal_tests
 }
 
 explain_place_tests() { # the largest places, and those that no call gives
@@ -138,26 +163,10 @@ explain_place_tests() { # the largest places, and those that no call gives
         'length of the text, or that number: 0' "$largest, unusual: each call gives 0 here"
 }
 
-explain_refusal_tests() { # as a user would: what one command prints is given to the other
-    run judge o.job refused.plan
-    explains '13 10 10' "$(<err)" 'task 10' 'task 10 again'
-    "$tool" judge o.job refused.plan 2>&1 | "$tool" explain - >out 2>err
-    check 'through a pipe' cmp -s out wanted
-    head -c 46 j >x
-    run list x
-    check 'the refused listing' is out 'refused 1 44 0'
-    mv err x.err
-    "$tool" explain - <x.err >out 2>err
-    check 'the first line of a refusal' is out "$("$tool" explain 'Refused 1, short: the file ends before the number at byte 44 is whole.')"
-    check 'its second line is left alone' is err ''
-    run explain "$(<x.err)"
-    check 'both lines are no sentence' is err "Refused 22, not a sentence: no refusal has it; its length or number: $(($(wc -c <x.err) - 1))."
-}
-
 # --- texts that are no sentence ---------------------------------------------------
 
 is_no_sentence() { # is_no_sentence LENGTH: the answer to the last run
-    [[ $status -eq 1 && ! -s out ]] && is err "Refused 22, not a sentence: no refusal has it; its length or number: $1."
+    [[ $status -eq 1 && ! -s out ]] && is err "seqopchi: refused 22 (not a sentence): the text is no refusal's sentence; its length is $1"
 }
 
 refuses_text() { # refuses_text TEXT..: each of them, with its length; bytes, since LC_ALL is C
@@ -306,3 +315,17 @@ damaged_sentence_tests() { # damaged_sentence_tests SENTENCE: cut, and each byte
         [[ $at -ge 60 && ${1:at:1} == [0-9] ]] || refuses_text "${1:0:at}${1:at+1}" "${1:0:at}${1:at:1}${1:at}"
     done
 }
+
+help_tests() {
+    check 'help lists explain' has <("$tool" --help) '  explain '
+    good explain --help
+    check 'usage of explain' has out 'Usage: seqopchi explain '
+}
+
+for group in help explain no_sentence line explain_usage; do
+    "${group}_tests"
+done
+ASAN_OPTIONS+=:detect_leaks=0 # half the time; leaks were looked for up to here
+sentence_damage_tests
+echo "explain: $passed passed, $failed failed"
+[[ $failed -eq 0 ]]

@@ -149,8 +149,7 @@ pub fn commit_into(
 }
 
 // Where one task more would go, as four numbers. Nothing is booked.
-#[unsafe(no_mangle)]
-pub extern "C" fn seqopchi_ask(job: &[u8], plan: &[u8], task: &[u8], places: &mut [u32; 4]) -> u64
+pub fn seqopchi_ask(job: &[u8], plan: &[u8], task: &[u8], places: &mut [u32; 4]) -> u64
     ensures { (result ≡ result_number (answered (refusal_of (ask_files job.now plan.now task.now))))
         × (places.new ≡ places_after (ask_files job.now plan.now task.now) places.old) }
 {
@@ -168,8 +167,7 @@ pub extern "C" fn seqopchi_ask(job: &[u8], plan: &[u8], task: &[u8], places: &mu
 }
 
 // Takes a place: the longer job and the longer plan, as files.
-#[unsafe(no_mangle)]
-pub extern "C" fn seqopchi_commit(
+pub fn seqopchi_commit(
     job: &[u8],
     plan: &[u8],
     booking: &[u8],

@@ -60,8 +60,7 @@ pub fn renew_job(job: &[u8], log: &[u8], out: &mut [u8]) -> Answer
 }
 
 // Run times from the last runs, a number for each task and node.
-#[unsafe(no_mangle)]
-pub extern "C" fn seqopchi_run_times(job: &[u8], log: &[u8], out: &mut [u8]) -> u64
+pub fn seqopchi_run_times(job: &[u8], log: &[u8], out: &mut [u8]) -> u64
     ensures { (result ≡ result_number (run_times job.now log.now out.old).answer)
         × (out.new ≡ (run_times job.now log.now out.old).buffer) }
 {
@@ -69,8 +68,7 @@ pub extern "C" fn seqopchi_run_times(job: &[u8], log: &[u8], out: &mut [u8]) -> 
 }
 
 // The job with these run times in place of its own.
-#[unsafe(no_mangle)]
-pub extern "C" fn seqopchi_renew_job(job: &[u8], log: &[u8], out: &mut [u8]) -> u64
+pub fn seqopchi_renew_job(job: &[u8], log: &[u8], out: &mut [u8]) -> u64
     ensures { (result ≡ result_number (renew_job job.now log.now out.old).answer)
         × (out.new ≡ (renew_job job.now log.now out.old).buffer) }
 {

@@ -1,13 +1,22 @@
 // Prints the plan of the job file on standard input, or why there is none.
 #![tactic(auto)]
 
-use libc::{STDIN_FILENO, STDOUT_FILENO};
+use std::io;
+use std::io::{Read, Write};
 use text::{ENOUGH, MAX_TEXT};
 
-fn main() {
+fn main(rt: HostRuntime) -> io::Result<()> {
     let mut job = [0u8; ENOUGH];
-    let n = io::read_full(STDIN_FILENO, &mut job);
+    let mut input = rt.reader();
+    let mut n: usize = 0;
+    while n < ENOUGH {
+        let more = input.read(&mut job[n..])?;
+        if more == 0 {
+            break;
+        }
+        n += more;
+    }
     let mut out = [0u8; MAX_TEXT];
     let len = text::list_job(&job[..n], &mut out);
-    io::write_all(STDOUT_FILENO, &out[..len]);
+    io::writer(&rt).write_all(&out[..len])
 }

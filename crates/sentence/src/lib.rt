@@ -128,8 +128,7 @@ pub fn read_sentence(text: &[u8]) -> Reading
 }
 
 // Prints the sentence of a refusal into a buffer.
-#[unsafe(no_mangle)]
-pub extern "C" fn seqopchi_sentence(number: u32, first: u64, second: u64, out: &mut [u8]) -> u64
+pub fn seqopchi_sentence(number: u32, first: u64, second: u64, out: &mut [u8]) -> u64
     ensures { (result ≡ result_number (print_sentence (told number first second) out.old).answer)
         × (out.new ≡ (print_sentence (told number first second) out.old).buffer) }
 {
@@ -142,8 +141,7 @@ pub extern "C" fn seqopchi_sentence(number: u32, first: u64, second: u64, out: &
 }
 
 // Reads a sentence back into three numbers: the refusal's number and both places.
-#[unsafe(no_mangle)]
-pub extern "C" fn seqopchi_read_sentence(text: &[u8], parts: &mut [u64; 3]) -> u64
+pub fn seqopchi_read_sentence(text: &[u8], parts: &mut [u64; 3]) -> u64
     ensures { (result ≡ result_number (reading_of text.now (read_sentence text.now)).answer)
         × (parts.new ≡ handed (read_sentence text.now) parts.old) }
 {

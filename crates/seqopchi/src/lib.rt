@@ -176,16 +176,14 @@ fn sets_files(job: &[u8], plan: &[u8], out: &mut [u8]) -> Answer
 }
 
 // Judges a job file and a plan file.
-#[unsafe(no_mangle)]
-pub extern "C" fn seqopchi_judge(job: &[u8], plan: &[u8]) -> u64
+pub fn seqopchi_judge(job: &[u8], plan: &[u8]) -> u64
     ensures { result ≡ result_number (answered (judge_files job.now plan.now)) }
 {
     judge_files(job, plan).result()
 }
 
 // Plans a job file into a buffer, as a plan file.
-#[unsafe(no_mangle)]
-pub extern "C" fn seqopchi_plan(job: &[u8], out: &mut [u8]) -> u64
+pub fn seqopchi_plan(job: &[u8], out: &mut [u8]) -> u64
     ensures { (result ≡ result_number (plan_file job.now out.old).answer)
         × (out.new ≡ (plan_file job.now out.old).buffer) }
 {
@@ -193,8 +191,7 @@ pub extern "C" fn seqopchi_plan(job: &[u8], out: &mut [u8]) -> u64
 }
 
 // Replays two files with no loss: three numbers for each task.
-#[unsafe(no_mangle)]
-pub extern "C" fn seqopchi_replay(job: &[u8], plan: &[u8], out: &mut [u8]) -> u64
+pub fn seqopchi_replay(job: &[u8], plan: &[u8], out: &mut [u8]) -> u64
     ensures { (result ≡ result_number (replay_files job.now plan.now NoLoss none out.old).answer)
         × (out.new ≡ (replay_files job.now plan.now NoLoss none out.old).buffer) }
 {
@@ -202,14 +199,7 @@ pub extern "C" fn seqopchi_replay(job: &[u8], plan: &[u8], out: &mut [u8]) -> u6
 }
 
 // The same, with a group lost at a moment: every node of it.
-#[unsafe(no_mangle)]
-pub extern "C" fn seqopchi_replay_loss(
-    job: &[u8],
-    plan: &[u8],
-    group: u32,
-    moment: u32,
-    out: &mut [u8],
-) -> u64
+pub fn seqopchi_replay_loss(job: &[u8], plan: &[u8], group: u32, moment: u32, out: &mut [u8]) -> u64
     ensures { (result ≡ result_number (replay_files job.now plan.now (Lost group moment) none out.old).answer)
         × (out.new ≡ (replay_files job.now plan.now (Lost group moment) none out.old).buffer) }
 {
@@ -217,13 +207,7 @@ pub extern "C" fn seqopchi_replay_loss(
 }
 
 // Replays two files with no loss, each copy taking the ticks that a list says.
-#[unsafe(no_mangle)]
-pub extern "C" fn seqopchi_replay_times(
-    job: &[u8],
-    plan: &[u8],
-    times: &[u8],
-    out: &mut [u8],
-) -> u64
+pub fn seqopchi_replay_times(job: &[u8], plan: &[u8], times: &[u8], out: &mut [u8]) -> u64
     ensures { (result ≡ result_number (replay_files job.now plan.now NoLoss (some times.now) out.old).answer)
         × (out.new ≡ (replay_files job.now plan.now NoLoss (some times.now) out.old).buffer) }
 {
@@ -231,8 +215,7 @@ pub extern "C" fn seqopchi_replay_times(
 }
 
 // The same, with a group lost at a moment.
-#[unsafe(no_mangle)]
-pub extern "C" fn seqopchi_replay_times_loss(
+pub fn seqopchi_replay_times_loss(
     job: &[u8],
     plan: &[u8],
     group: u32,
@@ -249,8 +232,7 @@ pub extern "C" fn seqopchi_replay_times_loss(
 }
 
 // The fault sets of two files, passed or not: a number for each task, bit q for group q.
-#[unsafe(no_mangle)]
-pub extern "C" fn seqopchi_fault_sets(job: &[u8], plan: &[u8], out: &mut [u8]) -> u64
+pub fn seqopchi_fault_sets(job: &[u8], plan: &[u8], out: &mut [u8]) -> u64
     ensures { (result ≡ result_number (sets_files job.now plan.now out.old).answer)
         × (out.new ≡ (sets_files job.now plan.now out.old).buffer) }
 {

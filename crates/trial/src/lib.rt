@@ -61,8 +61,7 @@ pub fn trial_plan(job: Job, plan: Plan) -> bool
 }
 
 // Tries two files: 0 is yes.
-#[unsafe(no_mangle)]
-pub extern "C" fn seqopchi_trial(job: &[u8], plan: &[u8]) -> u64
+pub fn seqopchi_trial(job: &[u8], plan: &[u8]) -> u64
     ensures { TrialAnswers job.now plan.now result }
 {
     let read = read_job(job);
