@@ -12,17 +12,12 @@ DEMO_LOSS := 1@16
 
 tool: build/seqopchi
 
-# Proved and built anew when a source or a proof has changed: 'rt check' proves what
-# the library rests on, two crates at a time. Five objects, so that what one of them calls
-# more than once is still inlined in the others. The copy outlives 'rt ci', which removes target/.
-SEQOPCHI_OBJECTS := seqopchi booking trial history sentence
-build/libseqopchi.a: $(shell find crates -type f 2>/dev/null)
-	rt check writer asking replay
-	for a in $(SEQOPCHI_OBJECTS); do rt staticlib $$a || exit 1; done
+# Proved and built anew when a source or a proof has changed: 'rt lib' builds only what it has proved, and begins with what earlier checks kept
+# in out/.
+build/libseqopchi.a: crates.txt $(shell find crates -name out -prune -o -type f -print 2>/dev/null)
+	cd crates/seqopchi_c && rt lib
 	@mkdir -p build
-	cd build && for a in $(SEQOPCHI_OBJECTS); do ar x ../target/staticlib/lib$$a.a; done
-	rm -f $@
-	ar rcs $@ $(SEQOPCHI_OBJECTS:%=build/%.o)
+	cp crates/seqopchi_c/out/libseqopchi_c.a $@
 
 build/seqopchi: $(TOOL_SOURCES) $(TOOL_HEADERS) $(SEQOPCHI_LIB)
 	@mkdir -p build
@@ -50,6 +45,7 @@ build/limits: $(LIMITS_SOURCES) tool/limits/limits.h include/seqopchi.h $(SEQOPC
 
 test-tool: build/seqopchi-sanitized build/header-checked
 	tool/test.sh build/seqopchi-sanitized
+	tool/test_sentence.sh build/seqopchi-sanitized
 
 # A class's oscilloscope captures: planned, listed, one node lost, one more fit asked
 # for, two charts.
