@@ -1,5 +1,5 @@
 -- The call that tells fault sets: a refusal of a file or of the buffer, or the sets.
-use Rattle.seqopchi.proofs.ReadLaws.{job_sound, job_stops, plan_stops, FilesDone, files_done, both_sound}
+use Rattle.seqopchi.proofs.ReadLaws.{job_sound, job_stops, plan_stops, files_done, both_sound}
 use Rattle.seqopchi.proofs.SetsLaws.{sets_stops, sets_no_room, sets_put}
 use Rattle.seqopchi.proofs.sets_files.Goals as goal
 
@@ -17,23 +17,19 @@ returns-in_default-bad_plan c =
 
 pub returns-then-out-n : goal.returns-then-out-n
 returns-then-out-n c =
-    sets_no_room _ _ _ _ ((let read_both : FilesDone c.args.job.now c.args.plan.now c.read_job-read.result.job c.read_plan-placed.result.plan = files_done _ _ c.read_job-read.ensures c.in-Done.is _ _
-    c.read_plan-placed.ensures c.in-Done-bad_plan.is in read_both)) _ c.if-out-n.true
+    sets_no_room _ _ _ _ (files_done _ _ c.read_job-read.ensures c.in-Done.is _ _ c.read_plan-placed.ensures c.in-Done-bad_plan.is) _ c.if-out-n.true
 
 pub plan_sets-sets-requires : goal.plan_sets-sets-requires
 plan_sets-sets-requires c =
-    both_sound _ _ _ _ ((let read_both : FilesDone c.args.job.now c.args.plan.now c.read_job-read.result.job c.read_plan-placed.result.plan = files_done _ _ c.read_job-read.ensures c.in-Done.is _ _
-    c.read_plan-placed.ensures c.in-Done-bad_plan.is in read_both))
+    both_sound _ _ _ _ (files_done _ _ c.read_job-read.ensures c.in-Done.is _ _ c.read_plan-placed.ensures c.in-Done-bad_plan.is)
 
 pub put_sets-requires : goal.put_sets-requires
 put_sets-requires c = (
-  (both_sound _ _ _ _ ((let read_both : FilesDone c.args.job.now c.args.plan.now c.read_job-read.result.job c.read_plan-placed.result.plan = files_done _ _ c.read_job-read.ensures c.in-Done.is _ _
-      c.read_plan-placed.ensures c.in-Done-bad_plan.is in read_both))).0.tasks_most,
+  (both_sound _ _ _ _ (files_done _ _ c.read_job-read.ensures c.in-Done.is _ _ c.read_plan-placed.ensures c.in-Done-bad_plan.is)).0.tasks_most,
   c.if-out-n.false,
 )
 
 pub returns : goal.returns
 returns c =
-    sets_put _ _ _ _ ((let read_both : FilesDone c.args.job.now c.args.plan.now c.read_job-read.result.job c.read_plan-placed.result.plan = files_done _ _ c.read_job-read.ensures c.in-Done.is _ _
-    c.read_plan-placed.ensures c.in-Done-bad_plan.is in read_both)) _ c.if-out-n.false c.plan_sets-sets.result c.plan_sets-sets.ensures _
+    sets_put _ _ _ _ (files_done _ _ c.read_job-read.ensures c.in-Done.is _ _ c.read_plan-placed.ensures c.in-Done-bad_plan.is) _ c.if-out-n.false c.plan_sets-sets.result c.plan_sets-sets.ensures _
     c.put_sets.ensures

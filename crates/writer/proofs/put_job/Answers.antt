@@ -1,7 +1,4 @@
-use Prim.Native.Nat.{◌≤◌}
 use native.Mathlib.Omega.{arith}
-use Rattle.reader.specs.Limits.{max_job_length}
-use Rattle.reader.specs.JobFile.{job_length}
 use Rattle.writer.specs.Write.{job_numbers, numbers_of}
 use Rattle.writer.proofs.PutLaws.{puts_then, job_room}
 use Rattle.writer.proofs.put_job.Goals as goal
@@ -12,8 +9,7 @@ put_nodes-at-requires c = (
   omega (arith, c.clip-p.ensures),
   omega (
     arith,
-    (let room : job_length c.args.job.version c.clip-p.result c.clip-n.result c.clip-m.result
-        ≤ max_job_length = job_room _ _ _ _ c.clip-p.ensures c.clip-n.ensures c.clip-m.ensures in room),
+    job_room c.args.job.version _ _ _ c.clip-p.ensures c.clip-n.ensures c.clip-m.ensures,
     c.put-at-2.ensures,
     c.put-at.ensures,
     c.requires,
@@ -24,8 +20,7 @@ pub put-at-requires-3 : goal.put-at-requires-3
 put-at-requires-3 c =
     omega (
       arith,
-      (let room : job_length c.args.job.version c.clip-p.result c.clip-n.result c.clip-m.result
-          ≤ max_job_length = job_room _ _ _ _ c.clip-p.ensures c.clip-n.ensures c.clip-m.ensures in room),
+      job_room c.args.job.version _ _ _ c.clip-p.ensures c.clip-n.ensures c.clip-m.ensures,
       c.put_nodes-at.ensures,
       c.put-at-2.ensures,
       c.put-at.ensures,
@@ -38,8 +33,7 @@ put_tasks-at-requires c = (
   omega (arith, c.clip-p.ensures),
   omega (
     arith,
-    (let room : job_length c.args.job.version c.clip-p.result c.clip-n.result c.clip-m.result
-        ≤ max_job_length = job_room _ _ _ _ c.clip-p.ensures c.clip-n.ensures c.clip-m.ensures in room),
+    job_room c.args.job.version _ _ _ c.clip-p.ensures c.clip-n.ensures c.clip-m.ensures,
     c.put-at-3.ensures,
     c.put_nodes-at.ensures,
     c.put-at-2.ensures,
@@ -52,8 +46,7 @@ pub put-at-requires-4 : goal.put-at-requires-4
 put-at-requires-4 c =
     omega (
       arith,
-      (let room : job_length c.args.job.version c.clip-p.result c.clip-n.result c.clip-m.result
-          ≤ max_job_length = job_room _ _ _ _ c.clip-p.ensures c.clip-n.ensures c.clip-m.ensures in room),
+      job_room c.args.job.version _ _ _ c.clip-p.ensures c.clip-n.ensures c.clip-m.ensures,
       c.put_tasks-at.ensures,
       c.put-at-3.ensures,
       c.put_nodes-at.ensures,
@@ -67,8 +60,7 @@ put_links-requires c = (
   omega (arith, c.clip-m.ensures),
   omega (
     arith,
-    (let room : job_length c.args.job.version c.clip-p.result c.clip-n.result c.clip-m.result
-        ≤ max_job_length = job_room _ _ _ _ c.clip-p.ensures c.clip-n.ensures c.clip-m.ensures in room),
+    job_room c.args.job.version _ _ _ c.clip-p.ensures c.clip-n.ensures c.clip-m.ensures,
     c.put-at-4.ensures,
     c.put_tasks-at.ensures,
     c.put-at-3.ensures,
@@ -84,8 +76,7 @@ unfolding job_numbers numbers_of
 returns c = (
   omega (
     arith,
-    (let room : job_length c.args.job.version c.clip-p.result c.clip-n.result c.clip-m.result
-        ≤ max_job_length = job_room _ _ _ _ c.clip-p.ensures c.clip-n.ensures c.clip-m.ensures in room),
+    job_room c.args.job.version _ _ _ c.clip-p.ensures c.clip-n.ensures c.clip-m.ensures,
     c.put_links.ensures.most,
     c.put-at-4.ensures,
     c.put_tasks-at.ensures,

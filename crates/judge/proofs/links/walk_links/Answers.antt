@@ -44,11 +44,8 @@ loop-k-preserved c =
 
 pub offset_bounds-links-primary : goal.offset_bounds-links-primary
 offset_bounds-links-primary c =
-    omega (
-      arith,
-      (let w = c.requires.0 in
-          primary_index _ _ _ w _ _ _ _ (c.loop-k.invariant w) (omega arith) c.if-primary-ne-NONE.true),
-    )
+    let w = c.requires.0 in
+    omega (arith, primary_index _ _ _ w _ _ _ _ (c.loop-k.invariant w) (omega arith) c.if-primary-ne-NONE.true)
 
 pub bounds-links-primary : goal.bounds-links-primary
 bounds-links-primary c =

@@ -1,8 +1,6 @@
-use Prim.Native.Nat.{◌+◌, ◌*◌, ◌<◌}
 use mathlib.Core.Path.{ap}
 use native.Mathlib.Omega.{arith}
 use Rattle.reader.specs.Entries.{empty_job}
-use Rattle.copies.specs.Table.{copy_count}
 use Rattle.judge.specs.Tasks.{tasked}
 use Rattle.judge.proofs.TaskLaws.{placing_start, placing_more, placing_done, detect_fits, group_fits, leaves_soon}
 use Rattle.judge.proofs.tasks.place_copies.Goals as goal
@@ -45,24 +43,12 @@ overflow_add-p c =
     let fits = c.requires.0 in
     omega (arith, detect_fits (tasked empty_job _ _ _) _ fits _ c.loop-j-test.true _ c.copy_of-p.ensures)
 
-pub overflow_mul-k : goal.overflow_mul-k
-overflow_mul-k c =
-    omega (arith, (let room : 2 * c.loop-j.j + 1 < copy_count = omega (arith, c.loop-j-test.true, c.requires.0.few) in room))
-
 pub overflow_add-leave : goal.overflow_add-leave
 overflow_add-leave c =
     let fits = c.requires.0 in
     let low = c.loop-j-test.true in
     let leaves = leaves_soon (tasked empty_job _ _ _) _ fits _ low _ _ c.copy_of-p.ensures c.copy_of-b.ensures in
     omega (arith, leaves.0)
-
-pub offset_bounds-leave-k : goal.offset_bounds-leave-k
-offset_bounds-leave-k c =
-    omega (arith, (let room : 2 * c.loop-j.j + 1 < copy_count = omega (arith, c.loop-j-test.true, c.requires.0.few) in room))
-
-pub bounds-leave-k : goal.bounds-leave-k
-bounds-leave-k c =
-    omega (arith, (let room : 2 * c.loop-j.j + 1 < copy_count = omega (arith, c.loop-j-test.true, c.requires.0.few) in room))
 
 pub overflow_add-leave-in-loop-j : goal.overflow_add-leave-in-loop-j
 overflow_add-leave-in-loop-j c =
@@ -71,39 +57,15 @@ overflow_add-leave-in-loop-j c =
     let leaves = leaves_soon (tasked empty_job _ _ _) _ fits _ low _ _ c.copy_of-p.ensures c.copy_of-b.ensures in
     omega (arith, leaves.1)
 
-pub overflow_add-leave-in-loop-j-2 : goal.overflow_add-leave-in-loop-j-2
-overflow_add-leave-in-loop-j-2 c =
-    omega (arith, (let room : 2 * c.loop-j.j + 1 < copy_count = omega (arith, c.loop-j-test.true, c.requires.0.few) in room))
-
-pub offset_bounds-leave-k-in-loop-j : goal.offset_bounds-leave-k-in-loop-j
-offset_bounds-leave-k-in-loop-j c =
-    omega (arith, (let room : 2 * c.loop-j.j + 1 < copy_count = omega (arith, c.loop-j-test.true, c.requires.0.few) in room))
-
-pub bounds-leave-k-in-loop-j : goal.bounds-leave-k-in-loop-j
-bounds-leave-k-in-loop-j c =
-    omega (arith, (let room : 2 * c.loop-j.j + 1 < copy_count = omega (arith, c.loop-j-test.true, c.requires.0.few) in room))
-
 pub put-requires : goal.put-requires
 put-requires c =
-    ((c.loop-j.invariant empty_job).tabled.whole, omega (arith, (let room : 2 * c.loop-j.j + 1 < copy_count = omega (arith, c.loop-j-test.true, c.requires.0.few) in room)))
-
-pub overflow_add-k : goal.overflow_add-k
-overflow_add-k c =
-    omega (arith, (let room : 2 * c.loop-j.j + 1 < copy_count = omega (arith, c.loop-j-test.true, c.requires.0.few) in room))
+    ((c.loop-j.invariant empty_job).tabled.whole, omega (arith, c.loop-j-test.true, c.requires.0.few))
 
 pub bit_of-requires : goal.bit_of-requires
 bit_of-requires c =
     let fits = c.requires.0 in
     let low = c.loop-j-test.true in
     omega (arith, group_fits (tasked empty_job _ _ _) _ fits _ low _ c.copy_of-p.ensures)
-
-pub put-requires-in-loop-j : goal.put-requires-in-loop-j
-put-requires-in-loop-j c =
-    (c.put.ensures.0, omega (arith, (let room : 2 * c.loop-j.j + 1 < copy_count = omega (arith, c.loop-j-test.true, c.requires.0.few) in room)))
-
-pub overflow_add-j : goal.overflow_add-j
-overflow_add-j c =
-    omega (arith, (let room : 2 * c.loop-j.j + 1 < copy_count = omega (arith, c.loop-j-test.true, c.requires.0.few) in room))
 
 pub loop-j-smaller : goal.loop-j-smaller
 loop-j-smaller c = omega (arith, c.loop-j-test.true)

@@ -1,6 +1,4 @@
-use Prim.Native.Nat.{◌<◌}
 use native.Mathlib.Omega.{arith}
-use Rattle.copies.specs.Table.{copy_count}
 use Rattle.planner.proofs.LeapLaws.{sweep_start, sweep_stop, sweep_more, sweep_done, swept_all}
 use Rattle.planner.proofs.search.first_free.Goals as goal
 
@@ -16,10 +14,6 @@ loop-p-init c = sweep_start _ _ _ _ _ _ _ c.requires.soon
 pub entry_at-k-requires : goal.entry_at-k-requires
 entry_at-k-requires c = omega (arith, c.loop-p-test.true, c.requires.filled.below)
 
-pub offset_bounds-start-k : goal.offset_bounds-start-k
-offset_bounds-start-k c =
-    omega (arith, (let low : c.entry_at-k.result < copy_count = omega (arith, c.entry_at-k.ensures, c.requires.filled.low _ c.loop-p.invariant.swept.low c.loop-p-test.true) in low))
-
 -- in a turn k is an entry
 pub bounds-start-k : goal.bounds-start-k
 bounds-start-k c = omega (arith, c.entry_at-k.ensures, c.requires.filled.low _ c.loop-p.invariant.swept.low c.loop-p-test.true)
@@ -34,22 +28,6 @@ returns-then-s-run c =
       value = swept_all _ _ _ _ _ _ _ _ (sweep_stop _ _ _ _ _ _ _ _ _ _ c.loop-p.invariant c.loop-p-test.true
           c.entry_at-k.ensures (omega (arith, c.if-s-run.true)));
     }
-
-pub offset_bounds-sets-k : goal.offset_bounds-sets-k
-offset_bounds-sets-k c =
-    omega (arith, (let low : c.entry_at-k.result < copy_count = omega (arith, c.entry_at-k.ensures, c.requires.filled.low _ c.loop-p.invariant.swept.low c.loop-p-test.true) in low))
-
-pub bounds-sets-k : goal.bounds-sets-k
-bounds-sets-k c =
-    (let low : c.entry_at-k.result < copy_count = omega (arith, c.entry_at-k.ensures, c.requires.filled.low _ c.loop-p.invariant.swept.low c.loop-p-test.true) in low)
-
-pub offset_bounds-finish-k : goal.offset_bounds-finish-k
-offset_bounds-finish-k c =
-    omega (arith, (let low : c.entry_at-k.result < copy_count = omega (arith, c.entry_at-k.ensures, c.requires.filled.low _ c.loop-p.invariant.swept.low c.loop-p-test.true) in low))
-
-pub bounds-finish-k : goal.bounds-finish-k
-bounds-finish-k c =
-    (let low : c.entry_at-k.result < copy_count = omega (arith, c.entry_at-k.ensures, c.requires.filled.low _ c.loop-p.invariant.swept.low c.loop-p-test.true) in low)
 
 pub overflow_add-p : goal.overflow_add-p
 overflow_add-p c = omega (arith, c.loop-p-test.true, c.requires.filled.below)

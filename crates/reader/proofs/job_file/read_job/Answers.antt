@@ -1,7 +1,5 @@
 -- A whole job file: each section behind the one before it, each refusal the first.
-use Prim.Native.Nat.{◌≤◌}
 use mathlib.Core.Path.{refl}
-use lib.ListN.{length}
 use native.Mathlib.Omega.{arith}
 use Rattle.reader.proofs.Chain.{handed}
 use Rattle.reader.proofs.JobLaws.{job_refused, bad_version, bad_nodes, node_room, bad_tasks, task_least, bad_links, bad_tail, whole_job}
@@ -22,16 +20,14 @@ pub slice_bounds-read_tasks-count : goal.slice_bounds-read_tasks-count
 slice_bounds-read_tasks-count c =
     omega (
       arith,
-      (let ends : c.read_nodes-nodes.result.end
-          ≤ length c.args.file.now = node_room _ _ c.read_version-v.ensures _ c.in-Is.is _ c.read_nodes-nodes.ensures.reads c.in-Done.is in ends),
+      node_room _ _ c.read_version-v.ensures _ c.in-Is.is _ c.read_nodes-nodes.ensures.reads c.in-Done.is,
     )
 
 pub slice_bounds-read_tasks-start : goal.slice_bounds-read_tasks-start
 slice_bounds-read_tasks-start c =
     omega (
       arith,
-      (let ends : c.read_nodes-nodes.result.end
-          ≤ length c.args.file.now = node_room _ _ c.read_version-v.ensures _ c.in-Is.is _ c.read_nodes-nodes.ensures.reads c.in-Done.is in ends),
+      node_room _ _ c.read_version-v.ensures _ c.in-Is.is _ c.read_nodes-nodes.ensures.reads c.in-Done.is,
     )
 
 pub returns-in_default-ta : goal.returns-in_default-ta

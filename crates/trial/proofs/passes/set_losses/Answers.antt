@@ -1,7 +1,5 @@
-use Prim.Native.Nat.{◌+◌, ◌<◌}
 use mathlib.Core.Path.{refl}
 use native.Mathlib.Omega.{arith}
-use Rattle.reader.specs.Limits.{max_tasks}
 use Rattle.trial.proofs.PassLaws.{noting_start, noting_more, noting_done}
 use Rattle.trial.proofs.passes.set_losses.Goals as goal
 
@@ -14,18 +12,6 @@ overflow_add-j c = omega (arith, c.loop-r-test.true, c.requires.1)
 pub returns-then-n-j : goal.returns-then-n-j
 returns-then-n-j c = noting_done _ _ _ _ _ _ _ _ c.loop-r.invariant c.requires.0 (λ p. c.if-n-j.true)
 
-pub overflow_mul-p : goal.overflow_mul-p
-overflow_mul-p c =
-    omega (arith, (let task_low : c.args.first + c.loop-r.r < max_tasks = omega (arith, c.if-n-j.false, c.requires.0.few) in task_low))
-
-pub offset_bounds-node-j : goal.offset_bounds-node-j
-offset_bounds-node-j c =
-    omega (arith, (let task_low : c.args.first + c.loop-r.r < max_tasks = omega (arith, c.if-n-j.false, c.requires.0.few) in task_low))
-
-pub bounds-node-j : goal.bounds-node-j
-bounds-node-j c =
-    omega (arith, (let task_low : c.args.first + c.loop-r.r < max_tasks = omega (arith, c.if-n-j.false, c.requires.0.few) in task_low))
-
 pub overflow_cast-p : goal.overflow_cast-p
 overflow_cast-p c = omega (arith, (c.requires.0.on _ c.if-n-j.false))
 
@@ -34,18 +20,6 @@ offset_bounds-nodes-p c = omega (arith, (c.requires.0.on _ c.if-n-j.false))
 
 pub bounds-nodes-p : goal.bounds-nodes-p
 bounds-nodes-p c = c.requires.0.on _ c.if-n-j.false
-
-pub overflow_mul-moment : goal.overflow_mul-moment
-overflow_mul-moment c =
-    omega (arith, (let task_low : c.args.first + c.loop-r.r < max_tasks = omega (arith, c.if-n-j.false, c.requires.0.few) in task_low))
-
-pub offset_bounds-finish-j : goal.offset_bounds-finish-j
-offset_bounds-finish-j c =
-    omega (arith, (let task_low : c.args.first + c.loop-r.r < max_tasks = omega (arith, c.if-n-j.false, c.requires.0.few) in task_low))
-
-pub bounds-finish-j : goal.bounds-finish-j
-bounds-finish-j c =
-    omega (arith, (let task_low : c.args.first + c.loop-r.r < max_tasks = omega (arith, c.if-n-j.false, c.requires.0.few) in task_low))
 
 pub overflow_sub-moment : goal.overflow_sub-moment
 overflow_sub-moment c = omega (arith, c.requires.0.runs _ c.if-n-j.false)
