@@ -50,7 +50,8 @@ held_files_survive a c s p loss list out h = passed_bytes_survive c.job c.plan l
 
 -- 'With no commit between, an asked place is always booked': the call of its booking answers 0, where there is room
 pub asked_commits : (a : Files) (task : List ℕ) (x : Place) → ask_files a.job a.plan task ≡ placed x → (out_job out_plan : List ℕ)
-    → job_need a (booking_of task x) ≤ length out_job → plan_need a ≤ length out_plan → result_number (commits a (booking_of task x) out_job out_plan).answer ≡ 0
+    → job_need a (booking_of task x) ≤ length out_job → plan_need a ≤ length out_plan
+    → result_number (commits a (booking_of task x) out_job out_plan).answer ≡ 0
 asked_commits a task x h out_job out_plan = rooms a (booking_of task x) _ (asked_file_booked a.job a.plan task x h) out_job out_plan
 
 placed_same : {A : Type 0} {x y : A} → placed x ≡ placed y → x ≡ y

@@ -35,8 +35,11 @@ module _ (a : Files) (booking out_job out_plan : List ℕ) where
       go : (c : Attempt Booked) → (result_number (books c out_job out_plan).answer ≡ 0 → ⊥)
           → ((books c out_job out_plan).job ≡ out_job) × ((books c out_job out_plan).plan ≡ out_plan)
       go (refused r) h = (refl, refl)
-      go (placed y) h =
-          (refused_kept (rooms_fault y out_job out_plan) (job_bytes y.job) out_job h, refused_kept (rooms_fault y out_job out_plan) (plan_bytes y.plan) out_plan h)
+      go (placed y) h = (
+        refused_kept (rooms_fault y out_job out_plan) (job_bytes y.job) out_job h,
+        refused_kept (rooms_fault y out_job out_plan)
+            (plan_bytes y.plan) out_plan h,
+      )
 
   pub commit_keeps_beyond : result_number b.answer ≡ 0
       → (drop (job_need a booking) b.job ≡ drop (job_need a booking) out_job) × (drop (plan_need a) b.plan ≡ drop (plan_need a) out_plan)

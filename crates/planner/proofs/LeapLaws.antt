@@ -73,7 +73,8 @@ module _ (cs : Copies) (m n run : ℕ) where
   sweep_free (i ∷ rest) s h =
       split (leb (s + run) (get_or cs.start i 0))
       (λ e. let behind = leb-true (s + run) (get_or cs.start i 0) e in
-      subst (λ x. free_of cs m (spot n x run) (i ∷ rest) ≡ true) (sym (sweep_stops i s rest e)) (and_i _ _ (starts_behind m n s run (get_or cs.start i 0) _ _ behind)
+      subst (λ x. free_of cs m (spot n x run) (i ∷ rest) ≡ true) (sym (sweep_stops i s rest e))
+      (and_i _ _ (starts_behind m n s run (get_or cs.start i 0) _ _ behind)
       (all_map (λ b. leb (start_at cs.start i) (start_at cs.start b)) _
       (λ b q. starts_behind m n s run (get_or cs.start b 0) _ _ (let x = leb-true (start_at cs.start i) (start_at cs.start b) q in omega arith))
       rest (and_l _ _ h))))

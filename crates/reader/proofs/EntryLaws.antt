@@ -22,7 +22,8 @@ module _ (s : List ℕ) where
   run_at_lem at p i m l = fill_get (λ i. number_at s (at + 4 * i)) (replicate max_nodes 0) 0 p i l m
 
   pub task_at_lem : (j : ℕ) → task_count s ≤ max_tasks → j < task_count s →
-      task (job_at s) j ≡ task_at (job_version s) s (task_section (job_version s) (node_count s) + 4 + j * task_width (job_version s) (node_count s)) (node_count s)
+      task (job_at s) j
+      ≡ task_at (job_version s) s (task_section (job_version s) (node_count s) + 4 + j * task_width (job_version s) (node_count s)) (node_count s)
   unfolding job_at tasks_at
   task_at_lem j m p = fill_get _ (replicate max_tasks blank_task) no_task (task_count s) j p m
 

@@ -103,7 +103,8 @@ module _ (v : ℕ) where
     pub fields_good : (at : ℕ) (fs : List Field) → fields_fault v s at fs ≡ none → GoodFields s at fs
     unfolding GoodFields fields_fault
     fields_good at [] e = tt
-    fields_good at (f ∷ fs) e = (λ q. field_good s at _ _ (Value at) (fault_if_lem _ _ (or_else_l _ _ e) q), fields_good (at + width_if (has v f)) fs (or_else_r _ _ e))
+    fields_good at (f ∷ fs) e =
+        (λ q. field_good s at _ _ (Value at) (fault_if_lem _ _ (or_else_l _ _ e) q), fields_good (at + width_if (has v f)) fs (or_else_r _ _ e))
 
     pub good_fields : (at : ℕ) (fs : List Field) → GoodFields s at fs → fields_fault v s at fs ≡ none
     unfolding GoodFields fields_fault

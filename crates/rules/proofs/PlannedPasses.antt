@@ -56,7 +56,8 @@ best_keeps job may m before j p b best_p best_b =
       primary = record { is = best_p.is; able = best_p.place.able };
       backup = record { is = best_b.is; able = best_b.place.able };
       primary_kept = subst (PrimaryKept job m before j) best_p.is ((primary_keeps_lem job m before j _).0 (and_r _ _ best_p.place.keeps_rules_lem));
-      backup_kept = subst (λ c. BackupKept job m before j (row job before j p c)) best_b.is ((backup_keeps_lem job m before j _).0 best_b.place.keeps_rules_lem);
+      backup_kept = subst (λ c. BackupKept job m before j (row job before j p c)) best_b.is
+          ((backup_keeps_lem job m before j _).0 best_b.place.keeps_rules_lem);
     }
 
 -- a row keeps the rules beside all tables that agree before it

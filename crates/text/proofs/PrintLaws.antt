@@ -42,7 +42,8 @@ module _ (d s : List ℕ) (at i : ℕ) {e : List ℕ} (h : Prints d at (take i s
   text_whole p = prints_same (ap (λ n. take n s) p ∙ take-length s) h
 
 -- a loop that prints rows
-pub rows_more : (row : ℕ → List ℕ) (i : ℕ) {d e g : List ℕ} {at k m : ℕ} → Prints d at (flat i row) e k → Prints e k (row i) g m → Prints d at (flat (i + 1) row) g m
+pub rows_more : (row : ℕ → List ℕ) (i : ℕ) {d e g : List ℕ} {at k m : ℕ} → Prints d at (flat i row) e k → Prints e k (row i) g m
+    → Prints d at (flat (i + 1) row) g m
 unfolding flat
 rows_more row i p q = rw add-one (prints_then p q)
 

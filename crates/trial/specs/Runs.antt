@@ -76,7 +76,8 @@ pub record Settleable (start finish : List ℕ) (own : Node) (j : ℕ) : Type 0 
 -- what f says of task j, with these starts, finishes and runs in which its copies have their inputs
 abbrev pub of_task : (ℕ → ℕ → ℕ → ℕ → ℕ → ℕ → ℕ) → List ℕ → List ℕ → List ℕ → ℕ → ℕ
 of_task f start finish fed j =
-    f (get_or start (2 * j) 0) (get_or finish (2 * j) 0) (get_or start (2 * j + 1) 0) (get_or finish (2 * j + 1) 0) (get_or fed (2 * j) 0) (get_or fed (2 * j + 1) 0)
+    f (get_or start (2 * j) 0) (get_or finish (2 * j) 0) (get_or start (2 * j + 1) 0) (get_or finish (2 * j + 1) 0) (get_or fed (2 * j) 0)
+    (get_or fed (2 * j + 1) 0)
 
 -- task j is settled
 pub record Settled (start finish fed lost moment : List ℕ) (own other : Node) (ready j : ℕ) (ended sets ended' sets' : List ℕ) : Type 0 where

@@ -1,3 +1,4 @@
+-- `asking::ask` meets its contract.
 use Rattle.asking.proofs.CallLaws.{ask_nowhere, ask_at}
 use Rattle.asking.proofs.ask.Goals as goal
 

@@ -1,3 +1,4 @@
+-- `asking::commit` meets its contract.
 use Rattle.asking.proofs.CallLaws.{big_sound, long_planned, commit_done, commit_refused}
 use Rattle.asking.proofs.commit.Goals as goal
 

@@ -1,3 +1,4 @@
+-- `asking::full` meets its contract.
 use Rattle.asking.proofs.RoomLaws.{no_task_lem, no_link_lem, room_left}
 use Rattle.asking.proofs.full.Goals as goal
 

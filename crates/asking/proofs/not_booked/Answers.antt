@@ -1,3 +1,4 @@
+-- `asking::not_booked` meets its contract.
 use mathlib.Core.Path.{ap₂}
 use Rattle.asking.proofs.not_booked.Goals as goal
 

@@ -1,3 +1,4 @@
+-- `asking::placed_as` meets its contract.
 use mathlib.Core.Path.{refl}
 use Rattle.rules.specs.Planner.{place_of}
 use Rattle.asking.specs.Calls.{asked}

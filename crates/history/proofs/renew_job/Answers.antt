@@ -1,3 +1,4 @@
+-- `history::renew_job` meets its contract.
 use mathlib.Core.Path.{refl, ◌∙◌}
 use Rattle.seqopchi.proofs.ReadLaws.{job_sound}
 use Rattle.history.proofs.CallLaws.{job_refused, no_room, log_refused, renew_is, renew_written}

@@ -1,3 +1,4 @@
+-- `history::run_times` meets its contract.
 use mathlib.Core.Path.{ap, ◌∙◌}
 use native.Mathlib.Omega.{arith}
 use Rattle.history.specs.Times.{table_length}

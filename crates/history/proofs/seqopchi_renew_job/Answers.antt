@@ -1,3 +1,4 @@
+-- `history::seqopchi_renew_job` meets its contract.
 use Rattle.seqopchi.proofs.ReadLaws.{given}
 use Rattle.history.proofs.seqopchi_renew_job.Goals as goal
 

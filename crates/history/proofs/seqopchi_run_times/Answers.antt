@@ -1,3 +1,4 @@
+-- `history::seqopchi_run_times` meets its contract.
 use Rattle.seqopchi.proofs.ReadLaws.{given}
 use Rattle.history.proofs.seqopchi_run_times.Goals as goal
 

@@ -1,3 +1,4 @@
+-- `judge::judge_faults` meets its contract.
 use mathlib.Core.Path.{◌∙◌}
 use Rattle.judge.specs.Overlaps.{fault_breach}
 use Rattle.judge.proofs.ScanLaws.{done_none, after, stop}

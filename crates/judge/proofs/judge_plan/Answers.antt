@@ -1,3 +1,4 @@
+-- `judge::judge_plan` meets its contract.
 use mathlib.Core.Logic.{inl, inr}
 use mathlib.Core.Path.{refl}
 use Rattle.judge.proofs.TaskLaws.{placeable}

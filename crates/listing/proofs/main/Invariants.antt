@@ -1,3 +1,4 @@
+-- What the loop of `listing::main` keeps, and what falls.
 use Rattle.std.proofs.Common.{◌-◌, ◌≤◌}
 use Rattle.listing.proofs.main.Given as goal
 

@@ -1,3 +1,4 @@
+-- `planner::plan_job` meets its contract.
 use mathlib.Core.Path.{refl}
 use native.Mathlib.Omega.{arith}
 use Rattle.reader.specs.Limits.{max_tasks}

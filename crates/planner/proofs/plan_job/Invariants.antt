@@ -1,3 +1,4 @@
+-- What the loop of `planner::plan_job` keeps, and what falls.
 use Prim.Native.Nat.{◌-◌}
 use Rattle.copies.specs.Table.{table}
 use Rattle.planner.specs.Tasks.{Planning}

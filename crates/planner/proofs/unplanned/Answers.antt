@@ -1,3 +1,4 @@
+-- `planner::unplanned` meets its contract.
 use Rattle.planner.specs.Tasks.{planned}
 use Rattle.planner.proofs.unplanned.Goals as goal
 

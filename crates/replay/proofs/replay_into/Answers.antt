@@ -1,3 +1,4 @@
+-- `replay::replay_into` meets its contract.
 use Rattle.replay.proofs.WriteLaws.{replay_written}
 use Rattle.replay.proofs.replay_into.Goals as goal
 

@@ -1,3 +1,4 @@
+-- `replay::replay_plan` meets its contract.
 use native.Mathlib.Omega.{arith}
 use Rattle.replay.proofs.RunLaws.{upto_start, upto_sent, upto_settled, upto_done, task_fits, to_fits, node_below, sent_fits}
 use Rattle.replay.proofs.PairLaws.{pair_groups, fits, picked_fits, picked_pair}

@@ -1,3 +1,4 @@
+-- What the loop of `replay::replay_plan` keeps, and what falls.
 use Prim.Native.Nat.{◌+◌, ◌-◌}
 use Rattle.reader.specs.Entries.{tasks, links}
 use Rattle.replay.specs.TimesFile.{chosen}

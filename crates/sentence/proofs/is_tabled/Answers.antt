@@ -1,3 +1,4 @@
+-- `sentence::is_tabled` meets its contract.
 use Rattle.sentence.proofs.PhraseLaws.{table_low, table_high}
 use Rattle.sentence.proofs.is_tabled.Goals as goal
 

@@ -1,3 +1,4 @@
+-- `sentence::print_sentence` meets its contract.
 use mathlib.Core.Path.{sym, ◌∙◌}
 use native.Mathlib.Omega.{arith}
 use Rattle.sentence.proofs.PhraseLaws.{told_true}

@@ -1,3 +1,4 @@
+-- `sentence::put_sentence` meets its contract.
 use native.Mathlib.Omega.{arith}
 use Rattle.sentence.specs.Phrases.{spelled}
 use Rattle.sentence.specs.Sentence.{body, sentence}

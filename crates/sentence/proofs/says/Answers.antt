@@ -1,3 +1,4 @@
+-- `sentence::says` meets its contract.
 use mathlib.Core.Path.{◌∙◌, ap}
 use native.Mathlib.Omega.{arith}
 use Rattle.sentence.specs.Reading.{same}

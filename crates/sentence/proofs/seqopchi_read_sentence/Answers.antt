@@ -1,3 +1,4 @@
+-- `sentence::seqopchi_read_sentence` meets its contract.
 use Rattle.sentence.proofs.ReadLaws.{refused_handed, done_handed}
 use Rattle.sentence.proofs.seqopchi_read_sentence.Goals as goal
 

@@ -1,3 +1,4 @@
+-- `sentence::seqopchi_sentence` meets its contract.
 use mathlib.Core.Path.{sym, ap, ◌∙◌}
 use Rattle.reader.specs.Refusals.{result_number}
 use Rattle.sentence.proofs.seqopchi_sentence.Goals as goal

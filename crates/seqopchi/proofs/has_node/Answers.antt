@@ -1,3 +1,4 @@
+-- `seqopchi::has_node` meets its contract.
 use Prim.Native.Nat.{ℕ}
 use mathlib.Core.Bool.{Bool, false}
 use mathlib.Core.Path.{◌≡◌, sym, ◌∙◌, ap₂, subst}

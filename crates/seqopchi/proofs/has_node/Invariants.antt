@@ -1,3 +1,4 @@
+-- What the loop of `seqopchi::has_node` keeps, and what falls.
 use Prim.Native.Nat.{◌-◌, ◌≤◌}
 use mathlib.Core.Bool.{false}
 use mathlib.Core.Path.{◌≡◌}

@@ -1,3 +1,4 @@
+-- `seqopchi::lost_group` meets its contract.
 use Rattle.seqopchi.proofs.ReadLaws.{nothing_lost, group_there, group_missing}
 use Rattle.seqopchi.proofs.lost_group.Goals as goal
 

@@ -22,7 +22,8 @@ lost_group-no_node-requires c =
 
 pub returns-in_default-no_node : goal.returns-in_default-no_node
 returns-in_default-no_node c =
-    no_node_lem _ _ _ _ (files_done _ _ c.read_job-read.ensures c.in-Done.is _ _ c.read_plan-placed.ensures c.in-Done-bad_plan.is) _ _ _ _ (c.lost_group-no_node.ensures _ refl refl) c.in_default-no_node.is
+    no_node_lem _ _ _ _ (files_done _ _ c.read_job-read.ensures c.in-Done.is _ _ c.read_plan-placed.ensures c.in-Done-bad_plan.is) _ _ _ _
+    (c.lost_group-no_node.ensures _ refl refl) c.in_default-no_node.is
 
 pub read_list-took-requires : goal.read_list-took-requires
 read_list-took-requires c =

@@ -1,3 +1,4 @@
+-- `seqopchi::seqopchi_fault_sets` meets its contract.
 use Rattle.seqopchi.proofs.ReadLaws.{given}
 use Rattle.seqopchi.proofs.seqopchi_fault_sets.Goals as goal
 

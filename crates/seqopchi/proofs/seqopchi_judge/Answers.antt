@@ -1,3 +1,4 @@
+-- `seqopchi::seqopchi_judge` meets its contract.
 use mathlib.Core.Path.{ap, ◌∙◌}
 use Rattle.reader.specs.Refusals.{result_number}
 use Rattle.seqopchi.proofs.seqopchi_judge.Goals as goal

@@ -1,3 +1,4 @@
+-- `seqopchi::seqopchi_plan` meets its contract.
 use Rattle.seqopchi.proofs.ReadLaws.{given}
 use Rattle.seqopchi.proofs.seqopchi_plan.Goals as goal
 

@@ -1,3 +1,4 @@
+-- `seqopchi::seqopchi_replay_times` meets its contract.
 use Rattle.reader.specs.First.{when}
 use Rattle.seqopchi.proofs.ReadLaws.{given}
 use Rattle.seqopchi.proofs.seqopchi_replay_times.Goals as goal

@@ -31,5 +31,6 @@ put_sets-requires c = (
 
 pub returns : goal.returns
 returns c =
-    sets_put _ _ _ _ (files_done _ _ c.read_job-read.ensures c.in-Done.is _ _ c.read_plan-placed.ensures c.in-Done-bad_plan.is) _ c.if-out-n.false c.plan_sets-sets.result c.plan_sets-sets.ensures _
+    sets_put _ _ _ _ (files_done _ _ c.read_job-read.ensures c.in-Done.is _ _ c.read_plan-placed.ensures c.in-Done-bad_plan.is) _
+    c.if-out-n.false c.plan_sets-sets.result c.plan_sets-sets.ensures _
     c.put_sets.ensures

@@ -1,3 +1,4 @@
+-- `text::put_plan` meets its contract.
 use native.Mathlib.Omega.{arith}
 use Rattle.text.specs.Text.{header, plan_text}
 use Rattle.text.proofs.PrintLaws.{prints_then}

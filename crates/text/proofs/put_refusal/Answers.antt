@@ -1,3 +1,4 @@
+-- `text::put_refusal` meets its contract.
 use mathlib.Core.Path.{ap}
 use native.Mathlib.Omega.{arith}
 use Rattle.text.specs.Text.{line, refused_word, told_text}

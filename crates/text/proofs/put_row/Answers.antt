@@ -1,3 +1,4 @@
+-- `text::put_row` meets its contract.
 use native.Mathlib.Omega.{arith}
 use Rattle.writer.specs.Write.{place_numbers}
 use Rattle.text.specs.Text.{line, row}

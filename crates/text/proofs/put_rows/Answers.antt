@@ -1,3 +1,4 @@
+-- `text::put_rows` meets its contract.
 use mathlib.Core.Path.{◌≡◌}
 use native.Mathlib.Omega.{arith}
 use Rattle.writer.specs.Write.{flat}

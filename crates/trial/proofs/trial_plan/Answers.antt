@@ -1,3 +1,4 @@
+-- `trial::trial_plan` meets its contract.
 use mathlib.Core.Bool.{false}
 use mathlib.Core.Path.{refl}
 use native.Mathlib.Omega.{arith}

@@ -1,3 +1,4 @@
+-- `writer::put` meets its contract.
 use borrow.Author.Rules.{rules}
 use Rattle.writer.proofs.PutLaws.{puts_one}
 use Rattle.writer.proofs.put.Goals as goal

@@ -1,3 +1,4 @@
+-- `writer::put_if` meets its contract.
 use Rattle.reader.specs.Fields.{width_if}
 use Rattle.writer.proofs.PutLaws.{puts_has, puts_lacks}
 use Rattle.writer.proofs.put_if.Goals as goal

@@ -1,3 +1,4 @@
+-- `writer::put_job` meets its contract.
 use native.Mathlib.Omega.{arith}
 use Rattle.writer.specs.Write.{job_numbers, numbers_of}
 use Rattle.writer.proofs.PutLaws.{puts_then, job_room}

@@ -1,3 +1,4 @@
+-- `writer::put_link` meets its contract.
 use Rattle.writer.specs.Write.{link_numbers}
 use Rattle.writer.proofs.PutLaws.{puts_then}
 use Rattle.writer.proofs.put_link.Goals as goal

@@ -1,3 +1,4 @@
+-- `writer::put_node` meets its contract.
 use native.Mathlib.Omega.{arith}
 use mathlib.Core.List.{[]}
 use lib.Dec.{leb}

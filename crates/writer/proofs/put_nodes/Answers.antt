@@ -1,3 +1,4 @@
+-- `writer::put_nodes` meets its contract.
 use mathlib.Core.Path.{◌≡◌}
 use native.Mathlib.Omega.{arith}
 use Rattle.writer.proofs.PutLaws.{puts_end, rows_none, rows_more, row_room}

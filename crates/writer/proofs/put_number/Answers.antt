@@ -1,3 +1,4 @@
+-- `writer::put_number` meets its contract.
 use lib.ListN.{length-set}
 use native.Mathlib.Omega.{arith}
 use borrow.Author.Rules.{rules}

@@ -1,3 +1,4 @@
+-- `writer::put_place` meets its contract.
 use Rattle.writer.specs.Write.{place_numbers}
 use Rattle.writer.proofs.PutLaws.{puts_then}
 use Rattle.writer.proofs.put_place.Goals as goal

@@ -1,3 +1,4 @@
+-- `writer::put_places` meets its contract.
 use mathlib.Core.Path.{◌≡◌}
 use native.Mathlib.Omega.{arith}
 use Rattle.writer.specs.Write.{place_numbers}

@@ -1,3 +1,4 @@
+-- What the loop of `writer::put_places` keeps, and what falls.
 use Prim.Native.Nat.{◌-◌, ◌≤◌}
 use lib.ListN.{get_or}
 use Rattle.reader.specs.Entries.{no_place}

@@ -1,3 +1,4 @@
+-- `writer::put_plan` meets its contract.
 use native.Mathlib.Omega.{arith}
 use Rattle.writer.specs.Write.{plan_numbers}
 use Rattle.writer.proofs.PutLaws.{puts_then}

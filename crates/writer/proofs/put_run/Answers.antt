@@ -1,3 +1,4 @@
+-- `writer::put_run` meets its contract.
 use mathlib.Core.Path.{◌≡◌}
 use native.Mathlib.Omega.{arith}
 use Rattle.writer.proofs.PutLaws.{rows_none, rows_more}

@@ -1,3 +1,4 @@
+-- What the loop of `writer::put_run` keeps, and what falls.
 use Prim.Native.Nat.{◌-◌, ◌≤◌}
 use mathlib.Core.List.{[], ◌∷◌}
 use lib.ListN.{get_or}

@@ -1,3 +1,4 @@
+-- `writer::send` meets its contract.
 use mathlib.Core.Path.{refl}
 use lib.ListN.{length-set}
 use native.Mathlib.Omega.{arith}

@@ -1,3 +1,4 @@
+-- `writer::write_job` meets its contract.
 use mathlib.Core.Path.{◌∙◌}
 use native.Mathlib.Omega.{arith}
 use Rattle.writer.proofs.PutLaws.{put_size}

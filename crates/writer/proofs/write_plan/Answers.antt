@@ -1,3 +1,4 @@
+-- `writer::write_plan` meets its contract.
 use mathlib.Core.Path.{◌∙◌}
 use mathlib.Core.List.{[]}
 use native.Mathlib.Omega.{arith}

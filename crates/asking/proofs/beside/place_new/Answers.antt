@@ -1,3 +1,4 @@
+-- `asking::beside::place_new` meets its contract.
 use mathlib.Core.Path.{refl}
 use native.Mathlib.Omega.{arith}
 use Rattle.reader.specs.Limits.{max_tasks}

@@ -1,3 +1,4 @@
+-- What the loop of `asking::beside::place_new` keeps, and what falls.
 use Prim.Native.Nat.{◌-◌}
 use Rattle.reader.specs.Entries.{tasks}
 use Rattle.copies.specs.Table.{table}

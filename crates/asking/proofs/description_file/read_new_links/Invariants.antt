@@ -1,3 +1,4 @@
+-- What the loop of `asking::description_file::read_new_links` keeps, and what falls.
 use Prim.Native.Nat.{ℕ, ◌+◌, ◌*◌, ◌-◌, ◌≤◌}
 use mathlib.Core.Path.{◌≡◌}
 use mathlib.Core.List.{List}
@@ -18,7 +19,8 @@ Links file at n =
 
 abbrev pub invariant-loop-k : goal.invariant-loop-k
 invariant-loop-k l =
-    (l.read.answer ≡ Done) × (l.count ≤ max_links) × (l.before ≡ new_link_before l.file (l.at + 4) l.tasks l.k) × Links l.file l.at l.tasks l.count l.k l.read.list
+    (l.read.answer ≡ Done) × (l.count ≤ max_links) × (l.before ≡ new_link_before l.file (l.at + 4) l.tasks l.k)
+    × Links l.file l.at l.tasks l.count l.k l.read.list
 
 abbrev pub decreases-loop-k : goal.decreases-loop-k
 decreases-loop-k l = l.count - l.k

@@ -1,3 +1,4 @@
+-- `copies::arrival::arrival` meets its contract.
 use borrow.Author.Tests.{eq-eqb, ne_eqb}
 use Rattle.copies.specs.Arrival.{arrival_of}
 use Rattle.copies.proofs.arrival.arrival.Goals as goal

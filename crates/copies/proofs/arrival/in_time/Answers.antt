@@ -1,3 +1,4 @@
+-- `copies::arrival::in_time` meets its contract.
 use mathlib.Core.Path.{ap}
 use lib.Dec.{leb}
 use Rattle.copies.proofs.arrival.in_time.Goals as goal

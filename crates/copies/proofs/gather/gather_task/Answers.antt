@@ -1,3 +1,4 @@
+-- `copies::gather::gather_task` meets its contract.
 use native.Mathlib.Omega.{arith}
 use Rattle.copies.proofs.GatherLaws.{gather_start, gather_more, gather_done, gathers, sender_low, sender_part}
 use Rattle.copies.proofs.gather.gather_task.Goals as goal

@@ -1,3 +1,4 @@
+-- What the loop of `copies::gather::gather_task` keeps, and what falls.
 use Rattle.copies.proofs.GatherLaws.{Gathering}
 use Rattle.copies.proofs.gather.gather_task.Given as goal
 

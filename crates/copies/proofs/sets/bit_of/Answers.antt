@@ -1,3 +1,4 @@
+-- `copies::sets::bit_of` meets its contract.
 use Rattle.copies.proofs.SetLaws.{shifted}
 use borrow.Author.Rules.{rules}
 use Rattle.copies.proofs.sets.bit_of.Goals as goal

@@ -1,3 +1,4 @@
+-- `copies::sets::holds` meets its contract.
 use mathlib.Core.Path.{refl}
 use Rattle.copies.specs.Sets.{has}
 use Rattle.copies.proofs.sets.holds.Goals as goal

@@ -1,3 +1,4 @@
+-- `copies::sets::late_bit` meets its contract.
 use Rattle.copies.proofs.MemberLaws.{shifted_bit}
 use Rattle.copies.proofs.sets.late_bit.Goals as goal
 

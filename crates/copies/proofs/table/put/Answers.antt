@@ -1,3 +1,4 @@
+-- `copies::table::put` meets its contract.
 use Rattle.copies.proofs.TableLaws.{stored_whole, stored}
 use Rattle.copies.proofs.table.put.Goals as goal
 

@@ -1,3 +1,4 @@
+-- What falls where `decimal::print::put_decimal` calls itself.
 use Rattle.decimal.proofs.print.+put_decimal.Given as goal
 
 abbrev pub decreases-put_decimal : goal.decreases-put_decimal

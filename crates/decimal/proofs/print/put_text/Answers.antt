@@ -1,3 +1,4 @@
+-- `decimal::print::put_text` meets its contract.
 use native.Mathlib.Omega.{arith}
 use Rattle.decimal.proofs.PrintLaws.{prints_none, prints_at, text_more, text_whole}
 use Rattle.decimal.proofs.print.put_text.Goals as goal

@@ -1,3 +1,4 @@
+-- `decimal::scan::find` meets its contract.
 use Rattle.decimal.proofs.ScanLaws.{finds}
 use Rattle.decimal.proofs.scan.find.Goals as goal
 

@@ -1,3 +1,4 @@
+-- `decimal::scan::grown` meets its contract.
 use native.Mathlib.Omega.{arith}
 use Rattle.decimal.proofs.ScanLaws.{digit_least, digit_most, grown_fits, grown_not}
 use Rattle.decimal.proofs.scan.grown.Goals as goal

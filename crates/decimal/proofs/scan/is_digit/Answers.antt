@@ -1,3 +1,4 @@
+-- `decimal::scan::is_digit` meets its contract.
 use Rattle.decimal.proofs.ScanLaws.{digit_low, digit_high}
 use Rattle.decimal.proofs.scan.is_digit.Goals as goal
 

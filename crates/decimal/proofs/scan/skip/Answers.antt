@@ -1,3 +1,4 @@
+-- `decimal::scan::skip` meets its contract.
 use mathlib.Core.Path.{refl, sym, ◌∙◌}
 use native.Mathlib.Omega.{arith}
 use Rattle.decimal.proofs.ScanLaws.{skip_here, skip_more, skip_end}

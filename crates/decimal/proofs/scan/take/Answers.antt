@@ -1,3 +1,4 @@
+-- `decimal::scan::take` meets its contract.
 use mathlib.Core.Path.{refl, sym, ◌∙◌}
 use native.Mathlib.Omega.{arith}
 use Rattle.decimal.proofs.ScanLaws.{value_here, value_more, value_end, behind_here, behind_more, behind_end}

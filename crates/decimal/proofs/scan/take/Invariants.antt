@@ -1,3 +1,4 @@
+-- What the loop of `decimal::scan::take` keeps, and what falls.
 use Prim.Native.Nat.{◌-◌, ◌≤◌}
 use mathlib.Core.Path.{◌≡◌}
 use lib.ListN.{length, drop}

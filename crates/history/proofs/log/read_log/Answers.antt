@@ -1,3 +1,4 @@
+-- `history::log::read_log` meets its contract.
 use native.Mathlib.Omega.{arith}
 use Rattle.history.proofs.LogLaws.{log_start, log_stop, log_more, log_cut, log_done}
 use Rattle.history.proofs.log.read_log.Goals as goal

@@ -1,3 +1,4 @@
+-- What the loop of `history::log::read_log` keeps, and what falls.
 use Prim.Native.Nat.{◌-◌}
 use lib.ListN.{length}
 use Rattle.history.specs.Window.{window}

@@ -1,3 +1,4 @@
+-- `history::log::read_node` meets its contract.
 use mathlib.Core.Path.{sym, ◌∙◌}
 use native.Mathlib.Omega.{arith}
 use Rattle.reader.proofs.TestLaws.{never}

@@ -1,3 +1,4 @@
+-- `history::log::read_timing` meets its contract.
 use native.Mathlib.Omega.{arith}
 use Rattle.reader.proofs.NumberLaws.{is_good}
 use Rattle.reader.proofs.Chain.{handed}

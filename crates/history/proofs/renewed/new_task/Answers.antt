@@ -1,3 +1,4 @@
+-- `history::renewed::new_task` meets its contract.
 use native.Mathlib.Omega.{arith}
 use Rattle.reader.proofs.FillLaws.{fill_none, filled_more}
 use Rattle.history.proofs.TableLaws.{row_done}

@@ -1,3 +1,4 @@
+-- What the loop of `history::renewed::new_task` keeps, and what falls.
 use Prim.Native.Nat.{◌-◌, ◌≤◌}
 use mathlib.Core.Path.{◌≡◌}
 use lib.ListN.{replicate}

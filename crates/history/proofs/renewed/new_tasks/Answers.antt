@@ -1,3 +1,4 @@
+-- `history::renewed::new_tasks` meets its contract.
 use native.Mathlib.Omega.{arith}
 use Rattle.reader.proofs.FillLaws.{fill_none}
 use Rattle.history.proofs.TableLaws.{tasks_more, tasks_done}

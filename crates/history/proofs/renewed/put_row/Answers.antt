@@ -1,3 +1,4 @@
+-- `history::renewed::put_row` meets its contract.
 use native.Mathlib.Omega.{arith}
 use Rattle.history.proofs.TableLaws.{row_start, row_more, row_end}
 use Rattle.history.proofs.renewed.put_row.Goals as goal

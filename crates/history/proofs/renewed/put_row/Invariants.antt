@@ -1,3 +1,4 @@
+-- What the loop of `history::renewed::put_row` keeps, and what falls.
 use Prim.Native.Nat.{◌-◌}
 use Rattle.reader.specs.Limits.{max_nodes}
 use Rattle.history.specs.Promise.{RowPut}

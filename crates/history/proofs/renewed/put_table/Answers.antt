@@ -1,3 +1,4 @@
+-- `history::renewed::put_table` meets its contract.
 use native.Mathlib.Omega.{arith}
 use Rattle.history.proofs.TableLaws.{table_start, table_room, table_more, table_done}
 use Rattle.history.proofs.renewed.put_table.Goals as goal

@@ -1,3 +1,4 @@
+-- What the loop of `history::renewed::put_table` keeps, and what falls.
 use Prim.Native.Nat.{◌-◌}
 use Rattle.history.proofs.TableLaws.{TableTo}
 use Rattle.history.proofs.renewed.put_table.Given as goal

@@ -1,3 +1,4 @@
+-- `history::renewed::renew` meets its contract.
 use mathlib.Core.Path.{refl}
 use native.Mathlib.Omega.{arith}
 use Rattle.history.proofs.RenewedLaws.{renew_refused, window_formed, renew_done}

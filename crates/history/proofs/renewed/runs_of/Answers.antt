@@ -1,3 +1,4 @@
+-- `history::renewed::runs_of` meets its contract.
 use native.Mathlib.Omega.{arith}
 use Rattle.history.proofs.TableLaws.{runs_start, runs_size, runs_more, runs_done}
 use Rattle.history.proofs.renewed.runs_of.Goals as goal

@@ -1,3 +1,4 @@
+-- What the loop of `history::renewed::runs_of` keeps, and what falls.
 use Prim.Native.Nat.{◌-◌, ◌*◌}
 use Rattle.reader.specs.Limits.{max_nodes, max_tasks}
 use Rattle.history.specs.Promise.{RunsTo}

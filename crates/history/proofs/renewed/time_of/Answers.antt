@@ -1,3 +1,4 @@
+-- `history::renewed::time_of` meets its contract.
 use Rattle.history.proofs.TableLaws.{time_none, time_seen}
 use Rattle.history.proofs.renewed.time_of.Goals as goal
 

@@ -1,3 +1,4 @@
+-- `history::renewed::with_times` meets its contract.
 use Rattle.history.proofs.TableLaws.{job_renewed}
 use Rattle.history.proofs.renewed.with_times.Goals as goal
 

@@ -1,3 +1,4 @@
+-- `history::window::largest` meets its contract.
 use native.Mathlib.Omega.{arith}
 use Rattle.history.proofs.SeenLaws.{seen_start, seen_more, seen_done}
 use Rattle.history.proofs.window.largest.Goals as goal

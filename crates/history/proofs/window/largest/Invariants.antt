@@ -1,3 +1,4 @@
+-- What the loop of `history::window::largest` keeps, and what falls.
 use Prim.Native.Nat.{◌-◌}
 use Rattle.history.specs.Times.{window_size}
 use Rattle.history.proofs.SeenLaws.{SeenTo}

@@ -1,3 +1,4 @@
+-- `history::window::push` meets its contract.
 use mathlib.Core.Path.{refl}
 use Rattle.history.proofs.PushLaws.{push_takes}
 use Rattle.history.proofs.window.push.Goals as goal

@@ -1,3 +1,4 @@
+-- `judge::backups::backups_fed` meets its contract.
 use mathlib.Core.Path.{sym, ◌∙◌, ap₂}
 use native.Mathlib.Omega.{arith}
 use Rattle.reader.specs.declared.refusal.Refusal.TheVariants.{BackupUnfed}

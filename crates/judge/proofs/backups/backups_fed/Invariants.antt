@@ -1,3 +1,4 @@
+-- What the loop of `judge::backups::backups_fed` keeps, and what falls.
 use Prim.Native.Nat.{◌-◌}
 use lib.ListN.{get_or}
 use Rattle.reader.specs.declared.refusal.Refusal.TheVariants.{BackupUnfed}

@@ -1,3 +1,4 @@
+-- `judge::backups::fed` meets its contract.
 use mathlib.Core.Path.{sym, ◌∙◌}
 use Rattle.judge.proofs.BackupLaws.{fed_late, fed_apart, fed_both}
 use Rattle.judge.proofs.backups.fed.Goals as goal

@@ -1,3 +1,4 @@
+-- `judge::faults::common_loss` meets its contract.
 use mathlib.Core.Bool.{not}
 use mathlib.Core.Path.{sym, ◌∙◌, ap}
 use native.Mathlib.Omega.{arith}

@@ -1,3 +1,4 @@
+-- What the loop of `judge::faults::common_loss` keeps, and what falls.
 use Prim.Native.Nat.{◌-◌}
 use Rattle.reader.specs.declared.refusal.Refusal.TheVariants.{CommonLoss}
 use Rattle.reader.specs.First.{unless}

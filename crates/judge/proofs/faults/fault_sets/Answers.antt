@@ -1,3 +1,4 @@
+-- `judge::faults::fault_sets` meets its contract.
 use native.Mathlib.Omega.{arith}
 use Rattle.judge.proofs.GatherLaws.{fill_start, fill_more, fill_done}
 use Rattle.judge.proofs.faults.fault_sets.Goals as goal

@@ -1,3 +1,4 @@
+-- What the loop of `judge::faults::fault_sets` keeps, and what falls.
 use Prim.Native.Nat.{◌-◌}
 use Rattle.judge.proofs.GatherLaws.{Filling}
 use Rattle.judge.proofs.faults.fault_sets.Given as goal

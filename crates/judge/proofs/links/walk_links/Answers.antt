@@ -1,3 +1,4 @@
+-- `judge::links::walk_links` meets its contract.
 use native.Mathlib.Omega.{arith}
 use Rattle.judge.proofs.NoteLaws.{seen_last, seen_done}
 use Rattle.judge.proofs.LinkLaws.{walk_start, walk_more, walk_done, primary_fits, backup_fits, primary_index}

@@ -1,3 +1,4 @@
+-- `judge::note::noted` meets its contract.
 use native.Mathlib.Omega.{arith}
 use Rattle.judge.specs.Notes.{noted_of}
 use Rattle.judge.proofs.note.noted.Goals as goal

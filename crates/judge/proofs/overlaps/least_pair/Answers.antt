@@ -1,3 +1,4 @@
+-- `judge::overlaps::least_pair` meets its contract.
 use native.Mathlib.Omega.{arith}
 use Rattle.judge.proofs.SweepLaws.{nodes_start, nodes_more, nodes_done}
 use Rattle.judge.proofs.overlaps.least_pair.Goals as goal

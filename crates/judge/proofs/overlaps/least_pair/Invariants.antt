@@ -1,3 +1,4 @@
+-- What the loop of `judge::overlaps::least_pair` keeps, and what falls.
 use Prim.Native.Nat.{◌-◌, ◌≤◌}
 use mathlib.Core.List.{[]}
 use mathlib.Core.Path.{◌≡◌}

@@ -1,3 +1,4 @@
+-- `judge::overlaps::note_pair` meets its contract.
 use Rattle.judge.proofs.SweepLaws.{note_new, note_old}
 use Rattle.judge.proofs.overlaps.note_pair.Goals as goal
 

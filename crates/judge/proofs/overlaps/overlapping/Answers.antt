@@ -1,3 +1,4 @@
+-- `judge::overlaps::overlapping` meets its contract.
 use Rattle.judge.proofs.PairLaws.{all_layable, all_filled, tells_none, tells_first}
 use Rattle.judge.proofs.overlaps.overlapping.Goals as goal
 

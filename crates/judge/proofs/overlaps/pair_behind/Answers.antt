@@ -1,3 +1,4 @@
+-- `judge::overlaps::pair_behind` meets its contract.
 use native.Mathlib.Omega.{arith}
 use Rattle.copies.proofs.SpotLaws.{swept_start}
 use Rattle.judge.proofs.SweepLaws.{behind_done, behind_stop, behind_more}

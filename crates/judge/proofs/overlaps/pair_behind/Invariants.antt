@@ -1,3 +1,4 @@
+-- What the loop of `judge::overlaps::pair_behind` keeps, and what falls.
 use Prim.Native.Nat.{◌+◌, ◌-◌}
 use mathlib.Core.List.{[]}
 use Rattle.copies.specs.Table.{table}

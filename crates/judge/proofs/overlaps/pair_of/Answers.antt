@@ -1,3 +1,4 @@
+-- `judge::overlaps::pair_of` meets its contract.
 use Rattle.judge.proofs.SweepLaws.{pair_number}
 use Rattle.judge.proofs.overlaps.pair_of.Goals as goal
 

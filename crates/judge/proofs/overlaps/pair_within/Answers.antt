@@ -1,3 +1,4 @@
+-- `judge::overlaps::pair_within` meets its contract.
 use native.Mathlib.Omega.{arith}
 use Rattle.copies.proofs.SpotLaws.{swept_start}
 use Rattle.judge.proofs.SweepLaws.{within_next, within_more, within_done}

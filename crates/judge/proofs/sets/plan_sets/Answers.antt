@@ -1,3 +1,4 @@
+-- `judge::sets::plan_sets` meets its contract.
 use mathlib.Core.Path.{refl}
 use Rattle.judge.proofs.TaskLaws.{placeable}
 use Rattle.judge.proofs.PlanLaws.{timed, filled}

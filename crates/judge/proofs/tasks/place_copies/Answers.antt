@@ -1,3 +1,4 @@
+-- `judge::tasks::place_copies` meets its contract.
 use mathlib.Core.Path.{ap}
 use native.Mathlib.Omega.{arith}
 use Rattle.reader.specs.Entries.{empty_job}

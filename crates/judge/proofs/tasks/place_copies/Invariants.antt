@@ -1,3 +1,4 @@
+-- What the loop of `judge::tasks::place_copies` keeps, and what falls.
 use Prim.Native.Nat.{◌-◌}
 use Rattle.reader.specs.declared.job.Job.{Job}
 use Rattle.copies.specs.Table.{table}

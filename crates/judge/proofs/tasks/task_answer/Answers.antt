@@ -1,3 +1,4 @@
+-- `judge::tasks::task_answer` meets its contract.
 use Rattle.judge.proofs.NoteLaws.{seen_last, seen_done, seen_stop, seen_on}
 use Rattle.judge.proofs.tasks.task_answer.Goals as goal
 

@@ -1,3 +1,4 @@
+-- `planner::faults::by_group` meets its contract.
 use native.Mathlib.Omega.{arith}
 use Rattle.planner.proofs.PeerLaws.{peers_more, peers_done}
 use Rattle.planner.proofs.faults.by_group.Goals as goal

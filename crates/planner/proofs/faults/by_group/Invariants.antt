@@ -1,3 +1,4 @@
+-- What the loop of `planner::faults::by_group` keeps, and what falls.
 use Prim.Native.Nat.{◌-◌, ◌≤◌}
 use Rattle.planner.specs.Faults.{Peers}
 use Rattle.planner.proofs.faults.by_group.Given as goal

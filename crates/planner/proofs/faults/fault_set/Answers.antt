@@ -1,3 +1,4 @@
+-- `planner::faults::fault_set` meets its contract.
 use mathlib.Core.Path.{ap}
 use native.Mathlib.Omega.{arith}
 use Rattle.planner.proofs.SenderLaws.{walk_arriving, walk_next}

@@ -1,3 +1,4 @@
+-- What the loop of `planner::faults::fault_set` keeps, and what falls.
 use Rattle.planner.specs.Senders.{results}
 use Rattle.planner.proofs.FaultLaws.{Faulting}
 use Rattle.planner.proofs.faults.fault_set.Given as goal

@@ -1,3 +1,4 @@
+-- `planner::inputs::farther` meets its contract.
 use Rattle.planner.proofs.InputLaws.{farther_new, farther_old}
 use Rattle.planner.proofs.inputs.farther.Goals as goal
 

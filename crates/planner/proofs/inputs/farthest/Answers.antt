@@ -1,3 +1,4 @@
+-- `planner::inputs::farthest` meets its contract.
 use mathlib.Core.Path.{refl}
 use native.Mathlib.Omega.{arith}
 use Rattle.planner.proofs.SenderLaws.{walk_arriving, walk_next}

@@ -1,3 +1,4 @@
+-- What the loop of `planner::inputs::farthest` keeps, and what falls.
 use Rattle.planner.specs.Senders.{results}
 use Rattle.planner.proofs.InputLaws.{Reaching}
 use Rattle.planner.proofs.inputs.farthest.Given as goal

@@ -1,3 +1,4 @@
+-- `planner::inputs::gather` meets its contract.
 use Rattle.planner.proofs.InputLaws.{given}
 use Rattle.planner.proofs.inputs.gather.Goals as goal
 

@@ -1,3 +1,4 @@
+-- `planner::inputs::own_time` meets its contract.
 use native.Mathlib.Omega.{arith}
 use Rattle.planner.proofs.SenderLaws.{walk_arriving, walk_next}
 use Rattle.planner.proofs.InputLaws.{owning_start, owning_more, owning_done}

@@ -1,3 +1,4 @@
+-- What the loop of `planner::inputs::own_time` keeps, and what falls.
 use Rattle.planner.specs.Senders.{results}
 use Rattle.planner.proofs.InputLaws.{Owning}
 use Rattle.planner.proofs.inputs.own_time.Given as goal

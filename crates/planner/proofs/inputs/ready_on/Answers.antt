@@ -1,3 +1,4 @@
+-- `planner::inputs::ready_on` meets its contract.
 use Rattle.planner.proofs.InputLaws.{ready_own, ready_all}
 use Rattle.planner.proofs.inputs.ready_on.Goals as goal
 

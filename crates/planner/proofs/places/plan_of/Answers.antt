@@ -1,3 +1,4 @@
+-- `planner::places::plan_of` meets its contract.
 use native.Mathlib.Omega.{arith}
 use Rattle.planner.proofs.ListLaws.{list_start, list_more, list_done}
 use Rattle.planner.proofs.places.plan_of.Goals as goal

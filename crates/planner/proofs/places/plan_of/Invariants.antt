@@ -1,3 +1,4 @@
+-- What the loop of `planner::places::plan_of` keeps, and what falls.
 use Prim.Native.Nat.{◌-◌, ◌≤◌}
 use mathlib.Core.Path.{◌≡◌}
 use Rattle.planner.specs.Tasks.{listed, places_to}

@@ -1,3 +1,4 @@
+-- `planner::places::primary_search` meets its contract.
 use Rattle.planner.proofs.places.primary_search.Goals as goal
 
 pub returns : goal.returns

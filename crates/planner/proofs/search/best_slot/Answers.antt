@@ -1,3 +1,4 @@
+-- `planner::search::best_slot` meets its contract.
 use mathlib.Core.Path.{sym, ◌∙◌}
 use native.Mathlib.Omega.{arith}
 use Rattle.planner.proofs.BestLaws.{first_best, best_passed, asked, best_next, best_found, start_at_lem}

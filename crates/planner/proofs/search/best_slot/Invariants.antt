@@ -1,3 +1,4 @@
+-- What the loop of `planner::search::best_slot` keeps, and what falls.
 use Prim.Native.Nat.{◌-◌}
 use mathlib.Core.List.{[]}
 use Rattle.copies.specs.Table.{table}

@@ -1,3 +1,4 @@
+-- `planner::search::better` meets its contract.
 use native.Mathlib.Omega.{arith}
 use Rattle.planner.proofs.BestLaws.{better_none, better_at}
 use Rattle.planner.proofs.search.better.Goals as goal

@@ -1,3 +1,4 @@
+-- `planner::search::first_free` meets its contract.
 use native.Mathlib.Omega.{arith}
 use Rattle.planner.proofs.LeapLaws.{sweep_start, sweep_stop, sweep_more, sweep_done, swept_all}
 use Rattle.planner.proofs.search.first_free.Goals as goal

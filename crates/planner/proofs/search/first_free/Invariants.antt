@@ -1,3 +1,4 @@
+-- What the loop of `planner::search::first_free` keeps, and what falls.
 use Prim.Native.Nat.{◌+◌, ◌*◌, ◌-◌}
 use mathlib.Core.List.{[]}
 use Rattle.copies.specs.Table.{copy_count, table}

@@ -1,3 +1,4 @@
+-- `planner::slot::may_run` meets its contract.
 use mathlib.Core.Bool.{not}
 use mathlib.Core.Path.{sym, ◌∙◌, ap}
 use native.Mathlib.Omega.{arith}

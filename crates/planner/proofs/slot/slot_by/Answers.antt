@@ -1,3 +1,4 @@
+-- `planner::slot::slot_by` meets its contract.
 use Rattle.planner.proofs.BestLaws.{place_yes, place_no}
 use Rattle.planner.proofs.slot.slot_by.Goals as goal
 

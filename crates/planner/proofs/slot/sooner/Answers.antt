@@ -1,3 +1,4 @@
+-- `planner::slot::sooner` meets its contract.
 use Rattle.planner.proofs.BestLaws.{sooner_yes, sooner_no}
 use Rattle.planner.proofs.slot.sooner.Goals as goal
 

@@ -1,3 +1,4 @@
+-- `planner::task::book` meets its contract.
 use Rattle.planner.proofs.BookLaws.{stored_booked}
 use Rattle.planner.proofs.task.book.Goals as goal
 

@@ -1,3 +1,4 @@
+-- `planner::task::lay_both` meets its contract.
 use native.Mathlib.Omega.{arith}
 use Rattle.planner.proofs.BookLaws.{both_laid}
 use Rattle.planner.proofs.task.lay_both.Goals as goal

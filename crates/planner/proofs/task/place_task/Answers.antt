@@ -1,3 +1,4 @@
+-- `planner::task::place_task` meets its contract.
 use native.Mathlib.Omega.{arith}
 use Rattle.planner.proofs.KeepsLaws.{want_sending, primary_ready, no_primary, primary_node, least_fits, group_fits, backup_ready, no_backup}
 use Rattle.planner.proofs.KeepsLaws.{both}

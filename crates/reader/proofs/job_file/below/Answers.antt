@@ -1,3 +1,4 @@
+-- `reader::job_file::below` meets its contract.
 use borrow.Author.Tests.{lt-ltb, le-ltb, eq-eqb, ne_eqb}
 use Rattle.reader.specs.Tests.{◌and◌, ◌or◌}
 use Rattle.reader.specs.Sound.{below}

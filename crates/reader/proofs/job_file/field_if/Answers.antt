@@ -1,3 +1,4 @@
+-- `reader::job_file::field_if` meets its contract.
 use Rattle.reader.proofs.VersionLaws.{has_is, lacks_is}
 use Rattle.reader.proofs.job_file.field_if.Goals as goal
 

@@ -1,3 +1,4 @@
+-- `reader::job_file::read_link` meets its contract.
 use mathlib.Core.Path.{◌∙◌}
 use native.Mathlib.Omega.{arith}
 use Rattle.reader.proofs.NumberLaws.{is_good}

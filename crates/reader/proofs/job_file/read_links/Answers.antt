@@ -1,3 +1,4 @@
+-- `reader::job_file::read_links` meets its contract.
 use mathlib.Core.Path.{refl, ◌∙◌}
 use native.Mathlib.Omega.{arith}
 use Rattle.reader.specs.JobFile.{link_before, links_fault, links_at}

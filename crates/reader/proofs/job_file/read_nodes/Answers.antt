@@ -1,3 +1,4 @@
+-- `reader::job_file::read_nodes` meets its contract.
 use mathlib.Core.Path.{◌∙◌}
 use native.Mathlib.Omega.{arith}
 use Rattle.reader.specs.JobFile.{nodes_fault, nodes_at}

@@ -1,3 +1,4 @@
+-- `reader::job_file::read_run` meets its contract.
 use mathlib.Core.Path.{refl}
 use native.Mathlib.Omega.{arith}
 use Rattle.reader.specs.First.{◌or_else◌}

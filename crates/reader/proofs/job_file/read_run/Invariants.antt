@@ -1,3 +1,4 @@
+-- What the loop of `reader::job_file::read_run` keeps, and what falls.
 use Prim.Native.Nat.{ℕ, ◌+◌, ◌*◌, ◌-◌, ◌≤◌}
 use mathlib.Core.Path.{◌≡◌}
 use mathlib.Core.List.{List}

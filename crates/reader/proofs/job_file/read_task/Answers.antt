@@ -1,3 +1,4 @@
+-- `reader::job_file::read_task` meets its contract.
 use native.Mathlib.Omega.{arith}
 use mathlib.Core.List.{[], ◌∷◌}
 use mathlib.Core.Path.{◌∙◌, refl}

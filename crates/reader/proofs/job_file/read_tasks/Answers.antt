@@ -1,3 +1,4 @@
+-- `reader::job_file::read_tasks` meets its contract.
 use mathlib.Core.Path.{◌∙◌}
 use native.Mathlib.Omega.{arith}
 use Rattle.reader.specs.JobFile.{tasks_fault, tasks_at}

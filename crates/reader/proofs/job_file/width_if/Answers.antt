@@ -1,3 +1,4 @@
+-- `reader::job_file::width_if` meets its contract.
 use native.Mathlib.Omega.{arith}
 use Rattle.reader.specs.Fields.{width_if}
 use Rattle.reader.proofs.job_file.width_if.Goals as goal

@@ -1,3 +1,4 @@
+-- `reader::number::field` meets its contract.
 use mathlib.Core.Path.{refl}
 use Rattle.reader.proofs.number.field.Goals as goal
 

@@ -1,3 +1,4 @@
+-- `reader::number::handed_on` meets its contract.
 use mathlib.Core.Path.{sym, ap}
 use Rattle.reader.specs.Number.{fault_of}
 use Rattle.reader.specs.Refusals.{answered}

@@ -1,3 +1,4 @@
+-- `reader::plan_file::read_node` meets its contract.
 use native.Mathlib.Omega.{arith}
 use Rattle.reader.proofs.NumberLaws.{is_good}
 use Rattle.reader.proofs.PlaceLaws.{node_refused, node_unable, node_able}

@@ -1,3 +1,4 @@
+-- `reader::plan_file::read_place` meets its contract.
 use mathlib.Core.Path.{refl, ◌∙◌}
 use Rattle.reader.specs.PlanFile.{place_fault}
 use Rattle.reader.proofs.NumberLaws.{is_none, is_value, is_fault}

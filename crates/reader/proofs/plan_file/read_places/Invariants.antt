@@ -1,3 +1,4 @@
+-- What the loop of `reader::plan_file::read_places` keeps, and what falls.
 use Prim.Native.Nat.{ℕ, ◌+◌, ◌*◌, ◌-◌}
 use mathlib.Core.List.{List}
 use mathlib.Core.Option.{none}

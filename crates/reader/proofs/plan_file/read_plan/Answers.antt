@@ -1,3 +1,4 @@
+-- `reader::plan_file::read_plan` meets its contract.
 use mathlib.Core.Path.{refl}
 use Rattle.reader.specs.PlanFile.{places_fault}
 use Rattle.reader.proofs.Chain.{handed}

@@ -1,3 +1,4 @@
+-- `replay::inputs::sent_at` meets its contract.
 use borrow.Author.Tests.{eq-eqb, ne_eqb}
 use Rattle.replay.specs.Inputs.{sent_at}
 use Rattle.replay.proofs.inputs.sent_at.Goals as goal

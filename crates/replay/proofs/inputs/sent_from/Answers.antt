@@ -1,3 +1,4 @@
+-- `replay::inputs::sent_from` meets its contract.
 use borrow.Author.Tests.{eq-eqb, ne_eqb}
 use Rattle.replay.specs.Inputs.{sent_from}
 use Rattle.replay.proofs.inputs.sent_from.Goals as goal

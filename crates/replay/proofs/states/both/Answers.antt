@@ -1,3 +1,4 @@
+-- `replay::states::both` meets its contract.
 use mathlib.Core.Path.{sym, ◌∙◌}
 use Rattle.reader.proofs.TestLaws.{and_if, and_unless}
 use Rattle.replay.proofs.states.both.Goals as goal

@@ -1,3 +1,4 @@
+-- `replay::states::pair_of` meets its contract.
 use native.Mathlib.Omega.{arith}
 use Rattle.rules.specs.Times.{listed_at}
 use Rattle.replay.proofs.states.pair_of.Goals as goal

@@ -1,3 +1,4 @@
+-- `replay::states::settle` meets its contract.
 use Rattle.replay.proofs.StateLaws.{settle_primary, settle_backup, settle_neither}
 use Rattle.replay.proofs.states.settle.Goals as goal
 

@@ -1,3 +1,4 @@
+-- `replay::states::state_of` meets its contract.
 use native.Mathlib.Omega.{arith}
 use Rattle.replay.proofs.StateLaws.{state_barred, state_safe, state_away, state_late, state_finished, state_cut}
 use Rattle.replay.proofs.states.state_of.Goals as goal

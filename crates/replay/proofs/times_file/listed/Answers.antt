@@ -1,3 +1,4 @@
+-- `replay::times_file::listed` meets its contract.
 use mathlib.Core.Path.{refl}
 use Rattle.rules.specs.Times.{listed_at}
 use Rattle.replay.proofs.times_file.listed.Goals as goal

@@ -1,3 +1,4 @@
+-- `replay::times_file::read_list` meets its contract.
 use Rattle.replay.proofs.ListLaws.{list_given, list_none}
 use Rattle.replay.proofs.times_file.read_list.Goals as goal
 

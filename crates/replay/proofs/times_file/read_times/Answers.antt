@@ -1,3 +1,4 @@
+-- `replay::times_file::read_times` meets its contract.
 use mathlib.Core.Path.{refl, ◌∙◌}
 use native.Mathlib.Omega.{arith}
 use Rattle.reader.proofs.Chain.{reads_none, reads_some, reads_value}

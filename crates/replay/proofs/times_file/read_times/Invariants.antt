@@ -1,3 +1,4 @@
+-- What the loop of `replay::times_file::read_times` keeps, and what falls.
 use Prim.Native.Nat.{◌-◌}
 use Rattle.replay.proofs.TimesFileLaws.{TimesTo}
 use Rattle.replay.proofs.times_file.read_times.Given as goal

@@ -1,3 +1,4 @@
+-- `replay::times_file::read_took` meets its contract.
 use mathlib.Core.Path.{refl, ◌∙◌}
 use Rattle.reader.proofs.NumberLaws.{is_none, is_value, is_fault}
 use Rattle.reader.proofs.Chain.{pass, stop, stopped, finished, handed}

@@ -1,3 +1,4 @@
+-- `replay::write::put_outcome` meets its contract.
 use Rattle.replay.proofs.WriteLaws.{outcome_put}
 use Rattle.replay.proofs.write.put_outcome.Goals as goal
 

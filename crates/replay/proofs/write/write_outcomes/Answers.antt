@@ -1,3 +1,4 @@
+-- `replay::write::write_outcomes` meets its contract.
 use native.Mathlib.Omega.{arith}
 use Rattle.replay.proofs.WriteLaws.{written_start, written_more, written_done}
 use Rattle.replay.proofs.write.write_outcomes.Goals as goal

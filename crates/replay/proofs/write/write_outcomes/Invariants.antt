@@ -1,3 +1,4 @@
+-- What the loop of `replay::write::write_outcomes` keeps, and what falls.
 use Prim.Native.Nat.{◌-◌}
 use Rattle.replay.proofs.WriteLaws.{Written}
 use Rattle.replay.proofs.write.write_outcomes.Given as goal

@@ -1,3 +1,4 @@
+-- `sentence::compare::same` meets its contract.
 use mathlib.Core.Path.{refl, ◌∙◌}
 use native.Mathlib.Omega.{arith}
 use Rattle.sentence.proofs.CompareLaws.{other_sizes, same_more, same_not, same_end}

@@ -1,3 +1,4 @@
+-- `sentence::phrase::both` meets its contract.
 use Rattle.sentence.specs.Phrases.{spelled, unsaid, mark}
 use Rattle.sentence.specs.Sentence.{placed}
 use Rattle.sentence.proofs.phrase.both.Goals as goal

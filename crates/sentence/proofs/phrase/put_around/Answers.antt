@@ -1,3 +1,4 @@
+-- `sentence::phrase::put_around` meets its contract.
 use mathlib.Core.Path.{sym}
 use native.Mathlib.Omega.{arith}
 use Rattle.decimal.proofs.PrintLaws.{prints_then, prints_same}

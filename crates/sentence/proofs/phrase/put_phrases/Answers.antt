@@ -1,3 +1,4 @@
+-- `sentence::phrase::put_phrases` meets its contract.
 use borrow.Author.Rules.{rules}
 use Rattle.sentence.proofs.PhraseLaws.{tabled_least, tabled_most}
 use Rattle.sentence.proofs.phrase.put_phrases.Goals as goal

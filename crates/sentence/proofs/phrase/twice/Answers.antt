@@ -1,3 +1,4 @@
+-- `sentence::phrase::twice` meets its contract.
 use Rattle.sentence.specs.Phrases.{spelled, unsaid, mark}
 use Rattle.sentence.specs.Sentence.{placed}
 use Rattle.sentence.proofs.phrase.twice.Goals as goal

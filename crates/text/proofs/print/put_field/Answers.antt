@@ -1,3 +1,4 @@
+-- `text::print::put_field` meets its contract.
 use native.Mathlib.Omega.{arith}
 use Rattle.text.specs.Text.{field}
 use Rattle.text.proofs.DecimalLaws.{digits_most}
@@ -17,5 +18,12 @@ overflow_add-result c =
 pub returns : goal.returns
 unfolding field
 returns c =
-    let most = digits_most c.args.v (omega arith) in
-    (omega (arith, most), prints_then c.put_decimal-end.ensures (prints_byte _ _ _ (omega (arith, most, c.put_decimal-end.ensures.behind, c.put_decimal-end.ensures.size))))
+    let most = digits_most c.args.v (omega arith) in (
+      omega (arith, most),
+      prints_then c.put_decimal-end.ensures (prints_byte _ _ _ (omega (
+        arith,
+        most,
+        c.put_decimal-end.ensures.behind,
+        c.put_decimal-end.ensures.size,
+      ))),
+    )

@@ -1,3 +1,4 @@
+-- `text::print::put_text` meets its contract.
 use native.Mathlib.Omega.{arith}
 use Rattle.text.proofs.PrintLaws.{prints_none, prints_at, text_more, text_whole}
 use Rattle.text.proofs.print.put_text.Goals as goal

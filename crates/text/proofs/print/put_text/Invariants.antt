@@ -1,3 +1,4 @@
+-- What the loop of `text::print::put_text` keeps, and what falls.
 use Prim.Native.Nat.{◌+◌, ◌-◌, ◌≤◌}
 use lib.ListN.{length, take}
 use Rattle.text.specs.Prints.{Prints}

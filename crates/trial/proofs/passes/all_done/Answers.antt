@@ -1,3 +1,4 @@
+-- `trial::passes::all_done` meets its contract.
 use native.Mathlib.Omega.{arith}
 use borrow.Author.Tests.{eq-eqb, ne_eqb}
 use Rattle.trial.proofs.PassLaws.{done_is, still_start, still_more, still_fails, still_done}

@@ -1,3 +1,4 @@
+-- What the loop of `trial::passes::all_done` keeps, and what falls.
 use Prim.Native.Nat.{◌-◌}
 use Rattle.trial.specs.Passes.{done_in}
 use Rattle.trial.proofs.PassLaws.{Still}

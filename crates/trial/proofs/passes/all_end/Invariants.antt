@@ -1,3 +1,4 @@
+-- What the loop of `trial::passes::all_end` keeps, and what falls.
 use Prim.Native.Nat.{◌-◌}
 use Rattle.trial.specs.Passes.{ends_in}
 use Rattle.trial.proofs.PassLaws.{Still}

@@ -1,3 +1,4 @@
+-- `trial::passes::pass` meets its contract.
 use mathlib.Core.Path.{refl}
 use Rattle.trial.proofs.PlacedLaws.{low, losable}
 use Rattle.trial.proofs.GoodLaws.{not_ended, not_done, not_apart, passing}

@@ -1,3 +1,4 @@
+-- `trial::passes::set_losses` meets its contract.
 use mathlib.Core.Path.{refl}
 use native.Mathlib.Omega.{arith}
 use Rattle.trial.proofs.PassLaws.{noting_start, noting_more, noting_done}

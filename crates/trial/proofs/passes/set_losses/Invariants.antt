@@ -1,3 +1,4 @@
+-- What the loop of `trial::passes::set_losses` keeps, and what falls.
 use Prim.Native.Nat.{◌-◌}
 use Rattle.trial.specs.Words.{run_count}
 use Rattle.trial.proofs.PassLaws.{Noting}

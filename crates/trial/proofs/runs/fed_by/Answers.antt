@@ -1,3 +1,4 @@
+-- `trial::runs::fed_by` meets its contract.
 use Rattle.trial.proofs.WordLaws.{either_tests}
 use Rattle.trial.proofs.runs.fed_by.Goals as goal
 

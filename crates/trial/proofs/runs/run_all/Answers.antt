@@ -1,3 +1,4 @@
+-- `trial::runs::run_all` meets its contract.
 use mathlib.Core.Path.{refl}
 use native.Mathlib.Omega.{arith}
 use Rattle.rules.specs.Survival.{primary, backup}

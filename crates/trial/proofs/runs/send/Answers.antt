@@ -1,3 +1,4 @@
+-- `trial::runs::send` meets its contract.
 use native.Mathlib.Omega.{arith}
 use Rattle.trial.proofs.RunLaws.{fed_sent}
 use Rattle.trial.proofs.runs.send.Goals as goal

@@ -1,3 +1,4 @@
+-- `trial::runs::settle` meets its contract.
 use Rattle.trial.proofs.RunLaws.{settled_is}
 use Rattle.trial.proofs.runs.settle.Goals as goal
 

@@ -1,3 +1,4 @@
+-- `trial::words::either` meets its contract.
 use mathlib.Core.Path.{ap₂}
 use lib.Bits.{bit_or}
 use Rattle.trial.proofs.words.either.Goals as goal

@@ -1,3 +1,4 @@
+-- `trial::words::spared` meets its contract.
 use mathlib.Core.Path.{◌∙◌, ap₂}
 use mathlib.Core.Bool.{cond}
 use native.Mathlib.Omega.{arith}

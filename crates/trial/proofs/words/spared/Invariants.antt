@@ -1,3 +1,4 @@
+-- What the loop of `trial::words::spared` keeps, and what falls.
 use Prim.Native.Nat.{◌-◌, ◌≤◌}
 use mathlib.Core.Path.{◌≡◌}
 use Rattle.trial.specs.Words.{run_count, spared_in}

@@ -1,3 +1,4 @@
+-- `trial::words::stays` meets its contract.
 use Rattle.trial.proofs.WordLaws.{or_is}
 use Rattle.trial.proofs.words.stays.Goals as goal
 

@@ -1,3 +1,4 @@
+-- `reader::job::Job::empty` meets its contract.
 use mathlib.Core.Path.{refl}
 use Rattle.reader.specs.Entries.{empty_job}
 use Rattle.reader.proofs.job.Job.empty.Goals as goal

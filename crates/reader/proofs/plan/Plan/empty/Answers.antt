@@ -1,3 +1,4 @@
+-- `reader::plan::Plan::empty` meets its contract.
 use mathlib.Core.Path.{refl}
 use Rattle.reader.specs.Entries.{empty_plan}
 use Rattle.reader.proofs.plan.Plan.empty.Goals as goal

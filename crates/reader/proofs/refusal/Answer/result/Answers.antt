@@ -1,3 +1,4 @@
+-- `reader::refusal::Answer::result` meets its contract.
 use mathlib.Core.Path.{sym, ap, ◌∙◌}
 use Rattle.reader.specs.Refusals.{packed, result_number}
 use Rattle.reader.proofs.refusal.Answer.result.Goals as goal

@@ -1,3 +1,4 @@
+-- `reader::refusal::Refusal::tell` meets its contract.
 use mathlib.Core.Path.{◌≡◌, sym, ap, ◌∙◌}
 use Rattle.reader.specs.declared.refusal.Refusal.{Refusal}
 use Rattle.reader.specs.Refusals.{Told, tell}
