@@ -45,7 +45,6 @@ build/limits: $(LIMITS_SOURCES) tool/limits/limits.h include/seqopchi.h $(SEQOPC
 
 test-tool: build/seqopchi-sanitized build/header-checked
 	tool/test.sh build/seqopchi-sanitized
-	tool/test_sentence.sh build/seqopchi-sanitized
 
 # A class's oscilloscope captures: planned, listed, one node lost, one more fit asked
 # for, two charts.

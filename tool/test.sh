@@ -96,6 +96,7 @@ lines() { printf '%s\n' "$@"; }
 . "$home/tool/test_times.sh"
 . "$home/tool/test_trial.sh"
 . "$home/tool/test_log.sh"
+. "$home/tool/test_sentence.sh"
 
 # --- good files -------------------------------------------------------------------
 
@@ -818,7 +819,8 @@ week_step() {
 for group in sample round_trip example job_fault plan_fault rule ready ready_chart ready_file ready_text \
     send send_chart send_file send_text group group_chart group_file group_text order ask commit stale full task_fault task_file task_text \
     trace trace_file trial trial_chart trial_file times times_fault times_chart times_text log log_fault show_new log_text \
-    usage ask_usage trace_usage trial_usage times_usage log_usage input output commit_output week demo; do
+    usage ask_usage trace_usage trial_usage times_usage log_usage input output commit_output week demo \
+    explain_help explain no_sentence line explain_usage; do
     "${group}_tests"
 done
 ASAN_OPTIONS+=:detect_leaks=0 # half the time; leaks were looked for up to here
@@ -829,5 +831,6 @@ trace_damage_tests
 trial_damage_tests
 times_damage_tests
 log_damage_tests
+sentence_damage_tests
 echo "tool: $passed passed, $failed failed"
 [[ $failed -eq 0 ]]

@@ -1,59 +1,4 @@
-#!/usr/bin/env bash
-# Tests of explain, beside test.sh: tool/test_sentence.sh TOOL. TOOL is built with sanitizers, which end it with status 99 at a fault of its own.
-set -u
-
-tool=$(realpath "$1")
-work=$(mktemp -d)
-trap 'rm -rf "$work"' EXIT
-cd "$work" || exit 2
-export LC_ALL=C ASAN_OPTIONS=exitcode=99 UBSAN_OPTIONS=exitcode=99:print_stacktrace=1
-
-passed=0 failed=0 # checks
-status=0          # of the last run; its output is in the files out and err
-
-run() {
-    "$tool" "$@" >out 2>err </dev/null
-    status=$?
-}
-
-check() { # check WHAT COMMAND..: whether the command succeeds
-    local what=$1
-    shift
-    if "$@"; then
-        passed=$((passed + 1))
-    else
-        failed=$((failed + 1))
-        echo "FAILED: $what (status $status)"
-        head -n 20 out err
-    fi
-}
-
-content=''
-read_file() { # into content, without the last line end; no process is started
-    IFS= read -r -d '' content <"$1"
-    content=${content%$'\n'}
-}
-
-has() { read_file "$1"; [[ $content == *"$2"* ]]; }
-is() { read_file "$1"; [[ $content == "$2" ]]; }
-ended() { [[ $status -eq $1 ]]; }
-
-good() { # good WORDS..: succeeds and complains of nothing
-    run "$@"
-    check "good: $*" ended 0
-    check "quiet: $*" is err ''
-}
-
-wrong() { # wrong WORDS-IN-MESSAGE WORDS..: usage, reading or writing
-    local text=$1
-    shift
-    run "$@"
-    check "wrong: $*" ended 2
-    check "message '$text': $*" has err "$text"
-    check "no output: $*" is out ''
-}
-
-# --- sentences --------------------------------------------------------------------
+# Tests of explain, a part of test.sh.
 
 # By number; @1 and @2 are the places.
 word_of=(- short version count value 'link order' tail unable 'same node' early late 'primary unfed' 'backup unfed' 'common loss' overlap
@@ -316,16 +261,8 @@ damaged_sentence_tests() { # damaged_sentence_tests SENTENCE: cut, and each byte
     done
 }
 
-help_tests() {
+explain_help_tests() {
     check 'help lists explain' has <("$tool" --help) '  explain '
     good explain --help
     check 'usage of explain' has out 'Usage: seqopchi explain '
 }
-
-for group in help explain no_sentence line explain_usage; do
-    "${group}_tests"
-done
-ASAN_OPTIONS+=:detect_leaks=0 # half the time; leaks were looked for up to here
-sentence_damage_tests
-echo "explain: $passed passed, $failed failed"
-[[ $failed -eq 0 ]]

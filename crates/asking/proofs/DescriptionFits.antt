@@ -13,7 +13,8 @@ use Rattle.reader.specs.Sound.{Sound}
 use Rattle.reader.specs.Refusals.{FaultFits}
 use Rattle.rules.specs.declared.Description.{Description}
 use Rattle.rules.specs.Description.{full_fault}
-use Rattle.asking.specs.DescriptionFile.{new_link_section, new_link_fault, new_links_fault, description_fault, description_length, question_fault, booking_fault}
+use Rattle.asking.specs.DescriptionFile.{new_link_section, new_link_fault, new_links_fault, description_fault, description_length, question_fault}
+use Rattle.asking.specs.DescriptionFile.{booking_fault}
 use Rattle.reader.proofs.FirstLaws.{or_else_r}
 use Rattle.reader.proofs.FieldLaws.{field_good}
 use Rattle.reader.proofs.LengthLaws.{task_width_most}

@@ -70,7 +70,8 @@ unfolding count_trailing_zeros
 least zero s p h = absurd (let z : ⊥ = omega arith in z)
 least (suc k) s p h = go (s % 2) refl (least k (s / 2))
   where
-    go : (r : ℕ) → s % 2 ≡ r → (0 < s / 2 → s / 2 < 2 ^ k → (count_trailing_zeros k (s / 2) < k) × (has (s / 2) (count_trailing_zeros k (s / 2)) ≡ true))
+    go : (r : ℕ) → s % 2 ≡ r → (0 < s / 2 → s / 2 < 2 ^ k
+        → (count_trailing_zeros k (s / 2) < k) × (has (s / 2) (count_trailing_zeros k (s / 2)) ≡ true))
         → (under r (count_trailing_zeros k (s / 2)) < suc k) × (has s (under r (count_trailing_zeros k (s / 2))) ≡ true)
     go zero e rest =
         let twice = pow-suc 2 k in

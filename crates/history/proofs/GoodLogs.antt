@@ -66,7 +66,8 @@ module _ (log : List ℕ) (job : Job) where
   log_exact = (λ fine. record { whole = whole fine; each = good_timing fine }, good_passes)
 
   -- the fault of a record, behind any number of good ones and before any number of others, is that of the log
-  pub fault_told : (k : ℕ) (r : Refusal) → k < records log → ((i : ℕ) → i < k → record_fault log job i ≡ none) → record_fault log job k ≡ some r
+  pub fault_told : (k : ℕ) (r : Refusal) → k < records log → ((i : ℕ) → i < k → record_fault log job i ≡ none)
+      → record_fault log job k ≡ some r
       → log_fault log job ≡ some r
   unfolding log_fault
   fault_told k r below before is = some_first (records log) (record_fault log job) r (record { at = k; below = below; is = is; least = before })

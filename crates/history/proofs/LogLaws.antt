@@ -104,7 +104,8 @@ module _ (log : List ℕ) (tasks_n nodes_n : ℕ) (runs : List ℕ) (at : ℕ) (
         let bad : record_fault log job inv.k ≡ some r = ap (timing_fault log job) (sym inv.at_is) ∙ reads_some (one job p n h) q in
         stopped (first_found (record_fault log job) (records log) inv.k r inside (inv.read job p n h).clear bad) (same ∙ q)
 
-    pub log_stop : {r : Refusal} (v : Window) → at + 12 ≤ length log → a ≡ Refused r → (b : Answer) → b ≡ a → AllRead log tasks_n nodes_n runs b v
+    pub log_stop : {r : Refusal} (v : Window) → at + 12 ≤ length log → a ≡ Refused r → (b : Answer) → b ≡ a
+        → AllRead log tasks_n nodes_n runs b v
     log_stop v whole q b same = λ job p n h. stops job (omega arith) p n h b same q
 
     -- a record that is cut short is refused

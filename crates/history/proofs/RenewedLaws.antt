@@ -128,7 +128,8 @@ module _ (log : List ℕ) (job : Job) (sound : Sound job) (fine : log_fault log 
         ap (λ t. or_else_run t (run job j n)) (has.is (cell_of j n))
         ∙ table_afresh (record_at log) (records log) w holds nodes_low job j n (omega (arith, sound.nodes_most)))
 
-module _ (log : List ℕ) (job : Job) (a : Answer) (w : Window) (reads : Reads (log_fault log job) a (Formed w × Holding (record_at log) (records log) w)) where
+module _ (log : List ℕ) (job : Job) (a : Answer) (w : Window)
+    (reads : Reads (log_fault log job) a (Formed w × Holding (record_at log) (records log) w)) where
   pub renew_refused : {r : Refusal} {A : Type 0} → a ≡ Refused r → Reads (log_fault log job) a A
   renew_refused q = stopped (reads_some reads q) q
 

@@ -1,5 +1,6 @@
 -- G over the entries of the table, and the sweep over each node's entries in order of time that finds the first pair which breaks it.
-use Rattle.std.specs.Prelude.{ℕ, zero, suc, ◌+◌, ◌*◌, ◌/◌, ◌%◌, ◌<◌, min, max, Bool, not, cond, List, [], ◌∷◌, leb, ltb, eqb, get_or}
+use Rattle.std.specs.Prelude.{ℕ, zero, suc, ◌+◌, ◌*◌, ◌/◌, ◌%◌, ◌<◌, min, max, Bool, not, cond, List, [], ◌∷◌, leb, ltb}
+use Rattle.std.specs.Prelude.{eqb, get_or}
 use Rattle.std.proofs.Math.Option.{Option}
 use Rattle.reader.specs.declared.job.Node.{Node}
 use Rattle.reader.specs.declared.refusal.Refusal.{Refusal}

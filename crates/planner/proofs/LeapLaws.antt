@@ -62,7 +62,8 @@ module _ (cs : Copies) (m n run : ℕ) where
   unfolding sweep
   sweep_stops i s rest e = rw e refl
 
-  sweep_goes : (i s : ℕ) (rest : List ℕ) → leb (s + run) (get_or cs.start i 0) ≡ false → sweep cs m run (i ∷ rest) s ≡ sweep cs m run rest (past i s)
+  sweep_goes : (i s : ℕ) (rest : List ℕ) → leb (s + run) (get_or cs.start i 0) ≡ false
+      → sweep cs m run (i ∷ rest) s ≡ sweep cs m run rest (past i s)
   unfolding sweep
   sweep_goes i s rest e = rw e refl
 

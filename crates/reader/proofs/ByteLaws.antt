@@ -18,7 +18,8 @@ bytes_number v h =
     let c : v / 16777216 % 256 ≡ v / 16777216 = omega arith in
     sum v (v % 256) (v / 256) (v / 256 % 256) (v / 65536) (v / 65536 % 256) (v / 16777216) (v / 16777216 % 256) (omega arith) a b c
   where
-    sum : (v r q₁ r₁ q₂ r₂ q₃ r₃ : ℕ) → v ≡ r + 256 * q₁ → q₁ ≡ r₁ + 256 * q₂ → q₂ ≡ r₂ + 256 * q₃ → r₃ ≡ q₃ → r + 256 * r₁ + 65536 * r₂ + 16777216 * r₃ ≡ v
+    sum : (v r q₁ r₁ q₂ r₂ q₃ r₃ : ℕ) → v ≡ r + 256 * q₁ → q₁ ≡ r₁ + 256 * q₂ → q₂ ≡ r₂ + 256 * q₃
+        → r₃ ≡ q₃ → r + 256 * r₁ + 65536 * r₂ + 16777216 * r₃ ≡ v
     sum v r q₁ r₁ q₂ r₂ q₃ r₃ e a b c = omega arith
 
 -- and a number made of four bytes has those bytes

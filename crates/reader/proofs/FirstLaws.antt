@@ -218,7 +218,8 @@ pub every_both : (n : ℕ) (t u : ℕ → Bool) → (every n t and every n u) �
 every_both n t u =
     same_test _ _
     (λ h. every_i n _ (λ i p. and_i _ _ (every_e n t (and_l _ _ h) i p) (every_e n u (and_r _ _ h) i p)))
-    (λ h. and_i _ _ (every_i n t (λ i p. and_l _ _ (every_e n (λ i. t i and u i) h i p))) (every_i n u (λ i p. and_r _ _ (every_e n (λ i. t i and u i) h i p))))
+    (λ h. and_i _ _ (every_i n t (λ i p. and_l _ _ (every_e n (λ i. t i and u i) h i p)))
+    (every_i n u (λ i p. and_r _ _ (every_e n (λ i. t i and u i) h i p))))
 
 module _ (t : ℕ → Bool) where
   -- one place more, which passes

@@ -38,7 +38,8 @@ module _ (s : List ℕ) (at p : ℕ) (run : List ℕ) (n : Number) (e : n ≡ nu
     unfolding numbered unless
     node_able z = rw (tested, lt-ltb 0 (get_or run v 0) (omega arith)) (ap Is same)
 
-pub place_is : (s : List ℕ) (at : ℕ) {a b c d : ℕ} → a ≡ number_at s at → b ≡ number_at s (at + 4) → c ≡ number_at s (at + 8) → d ≡ number_at s (at + 12)
+pub place_is : (s : List ℕ) (at : ℕ) {a b c d : ℕ} → a ≡ number_at s at → b ≡ number_at s (at + 4) → c ≡ number_at s (at + 8)
+    → d ≡ number_at s (at + 12)
     → ◌≡◌ {A = Place} (record { primary_node = a; primary_start = b; backup_node = c; backup_start = d }) (place_at s at)
 unfolding place_at
 place_is s at {a} {b} {c} {d} ea eb ec ed = cc

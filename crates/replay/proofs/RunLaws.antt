@@ -125,7 +125,8 @@ module _ (job : Job) (plan : Plan) (times : Times) (loss : Loss) (all : Sound jo
       result = result_of job (link job k) (sender (get_or r.node i 0) (get_or r.at i 0))
 
       -- the ready time of the receiver, for the copies c
-      ready_more : (c : ℕ → Copy) (ready : List ℕ) (n v a : ℕ) → Ready job plan times loss c k ready → (c to).node ≡ n → (c to).start ≤ max_start
+      ready_more : (c : ℕ → Copy) (ready : List ℕ) (n v a : ℕ) → Ready job plan times loss c k ready → (c to).node ≡ n
+          → (c to).start ≤ max_start
           → a ≡ arrival_of result n → v ≡ max (get_or ready to 0) a
           → Ready job plan times loss c (k + 1) (set ready to v)
       unfolding ◌implies◌

@@ -138,7 +138,8 @@ module _ (job : Job) (plan : Plan) (sound : Sound job) (plan_sound : PlanSound j
   abbrev file : List ℕ
   file = times_bytes times (tasks job)
 
-  number_there : (j k at : ℕ) → j < tasks job → k < 2 → at ≡ 8 * j + 4 * k → get_or (row_of j) k 0 < 2 ^ 32 → number_at file at ≡ get_or (row_of j) k 0
+  number_there : (j k at : ℕ) → j < tasks job → k < 2 → at ≡ 8 * j + 4 * k → get_or (row_of j) k 0 < 2 ^ 32
+      → number_at file at ≡ get_or (row_of j) k 0
   unfolding times_bytes
   number_there j k at p q e small = ap (number_at file) (e ∙ omega arith) ∙ row_number 2 row_of (λ j. refl) (tasks job) j k p q small
 

@@ -40,6 +40,7 @@ stale_third = refl
 
 -- a place asked for while task 1 stood a tick later: asking anew gives another, but it keeps the rules, and is booked
 pub moved_third : (judge J plan_later ≡ Done) × (ask J plan_later (third 30) ≡ placed (at 0 8 1 13))
-    × (commit J plan1 (third 30) (at 0 8 1 13) ≡ placed (with_third (at 0 8 1 13))) × (commit_if_asked J plan1 (third 30) (at 0 8 1 13) ≡ refused (Stale 2))
+    × (commit J plan1 (third 30) (at 0 8 1 13) ≡ placed (with_third (at 0 8 1 13)))
+    × (commit_if_asked J plan1 (third 30) (at 0 8 1 13) ≡ refused (Stale 2))
 unfolding computed below takes_new new_before merged_link longer_job longer_plan longer unless_stale ask commit
 moved_third = (refl, refl, refl, refl)

@@ -38,7 +38,8 @@ primary_keeps_lem job m before j p = (
   λ k. and_i _ _ k.ready (and_i _ _ ((every_into job j _).1 k.d) (every_i m _ k.g)),
 )
 
-pub backup_keeps_lem : (job : Job) (m : ℕ) (before : ℕ → Row) (j : ℕ) (s : Row) → (backup_keeps job m before j s ≡ true) ↔ BackupKept job m before j s
+pub backup_keeps_lem : (job : Job) (m : ℕ) (before : ℕ → Row) (j : ℕ) (s : Row)
+    → (backup_keeps job m before j s ≡ true) ↔ BackupKept job m before j s
 unfolding backup_keeps
 backup_keeps_lem job m before j s = (
   λ h0.

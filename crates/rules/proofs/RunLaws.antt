@@ -126,7 +126,8 @@ module _
     (own : (j : ℕ) → j < tasks job → (t j).faults ≡ fault_set job t j (t j).primary)
     (q f : ℕ) (stops : (j : ℕ) → j < tasks job → domain job (t j).primary.node ≡ q → is_finished (started job (Lost q f) (t j).primary) ≡ false)
   where
-    struck_to : (n j : ℕ) → j < n → n ≤ tasks job → (t j).faults q ≡ true → is_finished (runs_to job t t (Lost q f) (tasks job) j).primary ≡ false
+    struck_to : (n j : ℕ) → j < n → n ≤ tasks job → (t j).faults q ≡ true
+        → is_finished (runs_to job t t (Lost q f) (tasks job) j).primary ≡ false
     unfolding strong
     struck_to zero j b p h = absurd (not-suc-le-zero b)
     struck_to (suc n) j b p h =

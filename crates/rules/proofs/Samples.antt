@@ -18,7 +18,8 @@ use Rattle.rules.specs.Samples.{table, ready_table, send_table, group_table, tim
 
 -- all that the samples compute with
 unfoldable pub computed : Unit {0}
-unfolding ◌and◌ ◌or◌ ◌implies◌ ◌or_else◌ first unless when every any fill put grow Copies.copy Copies.overlap Copies.delay Copies.in_time Copies.domain
+unfolding ◌and◌ ◌or◌ ◌implies◌ ◌or_else◌ first unless when every any fill put grow Copies.copy Copies.overlap Copies.delay
+    Copies.in_time Copies.domain
     Copies.has_node strong Rules.carries Rules.fault_set Rules.row Rules.blank_row Rules.planned_row Rules.share_fault Rules.rule_a Rules.rule_ready
     Rules.rule_b Rules.rule_c Rules.rule_d Rules.rule_e Rules.rule_f Rules.rule_g_primary Rules.rule_g_backup Rules.rule_g Judge.first_task Judge.first_link
     Judge.first_pair Judge.breach judge Replay.started Replay.attempt Replay.arrived Replay.fed Replay.run_primary Replay.run_backup Replay.run_task

@@ -85,7 +85,8 @@ module _ (s parts : List ℕ) where
   handed_done none e = never (cc)
   handed_done (some t) e = (refl, refl)
 
-  pub refused_handed : (r : Reading) {q : Refusal} (n : ℕ) → r ≡ reading_of s (read_sentence s) → r.answer ≡ Refused q → n ≡ result_number r.answer
+  pub refused_handed : (r : Reading) {q : Refusal} (n : ℕ) → r ≡ reading_of s (read_sentence s) → r.answer ≡ Refused q
+      → n ≡ result_number r.answer
       → (n ≡ result_number (reading_of s (read_sentence s)).answer) × (parts ≡ handed (read_sentence s) parts)
   refused_handed r {q} n e a f =
       (f ∙ ap (λ x. result_number x.answer) e, handed_refused (read_sentence s) q (sym (ap (λ x. x.answer) e) ∙ a))

@@ -22,7 +22,8 @@ use Rattle.seqopchi.proofs.PlannedFiles.{planned_length}
 use Rattle.seqopchi.proofs.SetsLaws.{length_faults}
 
 -- of anything that is written
-pub refused_kept : (fault : Option Refusal) (s out : List ℕ) → (result_number (writes fault s out).answer ≡ 0 → ⊥) → (writes fault s out).buffer ≡ out
+pub refused_kept : (fault : Option Refusal) (s out : List ℕ) → (result_number (writes fault s out).answer ≡ 0 → ⊥)
+    → (writes fault s out).buffer ≡ out
 refused_kept none s out h = absurd (h refl)
 refused_kept (some r) s out h = refl
 

@@ -53,7 +53,8 @@ given e q = (q ∙ sym (ap (λ w. result_number w.answer) e), sym (ap (λ w. w.b
 
 -- whether the lost group has a node, b says
 module _ (job : Job) (loss : Loss) (q f : ℕ) (told : loss ≡ Lost q f)
-    (list : List Node) (n : ℕ) (are : job.nodes ≡ list) (is : nodes job ≡ n) (b : Bool) (e : b ≡ any n (λ i. eqb (get_or list i no_node).group q)) where
+    (list : List Node) (n : ℕ) (are : job.nodes ≡ list) (is : nodes job ≡ n) (b : Bool)
+    (e : b ≡ any n (λ i. eqb (get_or list i no_node).group q)) where
   there : b ≡ has_node job q
   unfolding has_node domain
   there = e ∙ ap₂ (λ l m. any m (λ i. eqb (get_or l i no_node).group q)) (sym are) (sym is)

@@ -107,7 +107,8 @@ module _ (job : List ℕ) where
     sets_fits out = fits_or_else _ _ files_fit (λ e. room_fits out _ (omega (arith, (files_sound job plan e).0.tasks_most)))
 
     -- `seqopchi_fault_sets`
-    pub sets_unpacks : (out : List ℕ) (r : Refusal) → sets_fault job plan out ≡ some r → Unpacks (tell r) (result_number (sets_files job plan out).answer)
+    pub sets_unpacks : (out : List ℕ) (r : Refusal) → sets_fault job plan out ≡ some r
+        → Unpacks (tell r) (result_number (sets_files job plan out).answer)
     unfolding sets_files
     sets_unpacks out = unpacks _ (sets_fits out)
 

@@ -53,7 +53,8 @@ module _ (list : List Task) (finish ended : List ℕ) (j u v : ℕ) (e : v ≡ w
   unfolding done_in
   done_is b f g = full_is _ u v b e f g
 
-pub ends_is : (ended : List ℕ) (j v : ℕ) → v ≡ without_of every_group (get_or ended (2 * j) 0) → (b : Bool) → eqb v 0 ≡ b → ends_in ended j ≡ b
+pub ends_is : (ended : List ℕ) (j v : ℕ) → v ≡ without_of every_group (get_or ended (2 * j) 0) → (b : Bool) → eqb v 0 ≡ b
+    → ends_in ended j ≡ b
 unfolding ends_in
 ends_is ended j v e b g = full_is (get_or ended (2 * j) 0) (get_or ended (2 * j) 0) v b e refl g
 

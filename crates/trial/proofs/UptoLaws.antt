@@ -61,7 +61,8 @@ module _ (job : Job) (cs : Copies) (leave : List ℕ) (w : Placed job cs leave) 
     pub told : Told job w.plan lost moment j ended sets
     pub inputs : (i : ℕ) (a : Role) → i < tasks job → Tells (get_or feds (at i a) 0) (λ r. every k (brings i a r))
 
-  pub upto_start : (ended sets : List ℕ) → length ended ≡ copy_count → length sets ≡ copy_count → Upto 0 0 (replicate copy_count every_group) ended sets
+  pub upto_start : (ended sets : List ℕ) → length ended ≡ copy_count → length sets ≡ copy_count
+      → Upto 0 0 (replicate copy_count every_group) ended sets
   upto_start ended sets le ls =
       record {
         within = omega arith;
@@ -314,7 +315,8 @@ module _ (job : Job) (cs : Copies) (leave : List ℕ) (w : Placed job cs leave) 
                     sets_size = ap length starts ∙ length-set (set sets (2 * j) _) (2 * j + 1) _ ∙ length-set sets (2 * j) _ ∙ old.sets_size;
                     ends = subst (λ z. (i : ℕ) (a : Role) → i < j + 1 → Tells (get_or z (at i a) 0) (λ r. is_finished (state_of a (x r i)))) (sym ends)
                         (new_at (λ v i a. Tells v (λ r. is_finished (state_of a (x r i)))) ended old.ended_size _ _ own_ends other_ends old.ends);
-                    starts = subst (λ z. (i : ℕ) (a : Role) → i < j + 1 → Tells (get_or z (at i a) 0) (λ r. is_started (state_of a (x r i)))) (sym starts)
+                    starts = subst (λ z. (i : ℕ) (a : Role) → i < j + 1 → Tells (get_or z (at i a) 0) (λ r. is_started (state_of a (x r i))))
+                        (sym starts)
                         (new_at (λ v i a. Tells v (λ r. is_started (state_of a (x r i)))) sets old.sets_size _ _ own_starts other_starts old.starts);
                     narrow = subst (λ z. (i : ℕ) (a : Role) → i < j + 1 → Narrow (get_or z (at i a) 0)) (sym starts)
                         (new_at (λ v i a. Narrow v) sets old.sets_size _ _ own_narrow other_narrow old.narrow);

@@ -144,5 +144,6 @@ module _ (lost moment : List ℕ) (group by : ℕ) where
   unfolding spared_in
   spared_start = refl
 
-  pub spared_done : (n w : ℕ) → n ≤ run_count → run_count ≤ n → w ≡ spared_in lost moment group by n → w ≡ spared_in lost moment group by run_count
+  pub spared_done : (n w : ℕ) → n ≤ run_count → run_count ≤ n → w ≡ spared_in lost moment group by n
+      → w ≡ spared_in lost moment group by run_count
   spared_done n w most left e = let d : n ≡ run_count = omega arith in e ∙ ap (spared_in lost moment group by) d

@@ -93,7 +93,8 @@ unfolding held_if
 if_then true x xs = refl
 if_then false x xs = refl
 
-pub puts_if : (b : Bool) (x : ℕ) {d e g xs : List ℕ} {at k m : ℕ} → Puts d at (held_if b x []) e k → Puts e k xs g m → Puts d at (held_if b x xs) g m
+pub puts_if : (b : Bool) (x : ℕ) {d e g xs : List ℕ} {at k m : ℕ} → Puts d at (held_if b x []) e k → Puts e k xs g m
+    → Puts d at (held_if b x xs) g m
 puts_if b x {d} {e} {g} {xs} {at} {k} {m} p q = subst (λ vs. Puts d at vs g m) (if_then b x xs) (puts_then p q)
 
 -- the part of the buffer that a file was put into
@@ -126,5 +127,6 @@ pub row_room : {row : ℕ → List ℕ} {w i : ℕ} {d e : List ℕ} {at k : ℕ
 row_room {row} {w} {i} n p h room = omega (arith, p.most, p.puts.size, mul-le-mul_right w h)
 
 -- counts clipped to their arrays leave room for the longest job
-pub job_room : (v a b c : ℕ) {p n m : ℕ} → p ≡ min a max_nodes → n ≡ min b max_tasks → m ≡ min c max_links → job_length v p n m ≤ max_job_length
+pub job_room : (v a b c : ℕ) {p n m : ℕ} → p ≡ min a max_nodes → n ≡ min b max_tasks → m ≡ min c max_links
+    → job_length v p n m ≤ max_job_length
 job_room v a b c {p} {n} {m} hp hn hm = job_length_most v p (omega arith) n (omega arith) m (omega arith)

@@ -32,7 +32,8 @@ writes_none o s out e = rw e
 writes_done : (o : Option Refusal) (s out : List ℕ) → (writes o s out).answer ≡ Done → (o ≡ none) × (take (length s) (writes o s out).buffer ≡ s)
 writes_done o s out d = let e = (answered_done o).0 d in (e, rw e (take-append_seam s (drop (length s) out)))
 
-pub job_rewritten : (s out : List ℕ) → Bytes s → (read_job s).answer ≡ Done → length s ≤ length out → write_job (read_job s).job out ≡ wrote s out
+pub job_rewritten : (s out : List ℕ) → Bytes s → (read_job s).answer ≡ Done → length s ≤ length out
+    → write_job (read_job s).job out ≡ wrote s out
 unfolding write_job write_job_fault
 job_rewritten s out b d h =
     let r = job_done s d in

@@ -21,7 +21,8 @@ use Rattle.reader.specs.Refusals.{answered}
 use Rattle.reader.specs.Sound.{Sound}
 use Rattle.reader.specs.JobFile.{job_fault, job_at, read_job}
 use Rattle.reader.specs.PlanFile.{plan_fault, read_plan}
-use Rattle.writer.specs.Write.{pack, job_numbers, job_bytes, plan_numbers, plan_bytes, room_fault, writes, write_job_fault, write_plan_fault, write_job, write_plan}
+use Rattle.writer.specs.Write.{pack, job_numbers, job_bytes, plan_numbers, plan_bytes, room_fault, writes, write_job_fault, write_plan_fault}
+use Rattle.writer.specs.Write.{write_job, write_plan}
 use Rattle.writer.specs.Puts.{Puts}
 use Rattle.reader.proofs.RefusalLaws.{answered_done, answered_refused}
 use Rattle.reader.proofs.Promise.{job_done}

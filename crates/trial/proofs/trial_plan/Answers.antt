@@ -22,7 +22,7 @@ pub returns-then-not-pass : goal.returns-then-not-pass
 returns-then-not-pass c =
     let pre = c.requires in
     pass_fails _ _ pre.0 pre.1 _ _ _ _ _ _ (c.place_copies.ensures c.args.job) _ _ _
-    c.pass.ensures (λ s. omega arith) (c.if-not-pass.true)
+    c.pass.ensures (λ s. omega arith) c.if-not-pass.true
 
 pub pass-requires-2 : goal.pass-requires-2
 pass-requires-2 c =
@@ -33,13 +33,13 @@ pub returns-then-not-pass-2 : goal.returns-then-not-pass-2
 returns-then-not-pass-2 c =
     let pre = c.requires in
     pass_fails _ _ pre.0 pre.1 _ _ _ _ _ _ (c.place_copies.ensures c.args.job) _ _ _
-    c.pass-2.ensures (λ s. clash false s refl) (c.if-not-pass-2.true)
+    c.pass-2.ensures (λ s. clash false s refl) c.if-not-pass-2.true
 
 pub returns-then-n-le-RUNS : goal.returns-then-n-le-RUNS
 returns-then-n-le-RUNS c =
     let pre = c.requires in
     few_pass _ _ pre.0 pre.1 _ _ _ _ _ _ (c.place_copies.ensures c.args.job) _ _
-    c.pass.ensures (c.if-not-pass.false) c.pass-2.ensures (c.if-not-pass-2.false) c.if-n-le-RUNS.true
+    c.pass.ensures c.if-not-pass.false c.pass-2.ensures c.if-not-pass-2.false c.if-n-le-RUNS.true
 
 pub pass-requires-3 : goal.pass-requires-3
 pass-requires-3 c =
@@ -50,5 +50,5 @@ pub returns : goal.returns
 returns c =
     let pre = c.requires in
     last_pass _ _ pre.0 pre.1 _ _ _ _ _ _ (c.place_copies.ensures c.args.job) _ _
-    c.pass.ensures (c.if-not-pass.false) c.pass-2.ensures (c.if-not-pass-2.false)
+    c.pass.ensures c.if-not-pass.false c.pass-2.ensures c.if-not-pass-2.false
     pre.0.tasks_most _ c.pass-3.ensures

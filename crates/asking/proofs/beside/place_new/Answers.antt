@@ -28,7 +28,7 @@ overflow_cast-at c = omega (arith, old_few _ _ _ _ _ _ _ _ _ _ _ _ c.loop-j.inva
 
 pub offset_bounds-nodes-p : goal.offset_bounds-nodes-p
 offset_bounds-nodes-p c =
-    let on = ((old_takeable _ _ _ _ _ _ _ _ _ _ _ _ c.loop-j.invariant c.loop-j-test.true).primary.on) in search rules
+    omega (arith, (old_takeable _ _ _ _ _ _ _ _ _ _ _ _ c.loop-j.invariant c.loop-j-test.true).primary.on)
 
 pub bounds-nodes-p : goal.bounds-nodes-p
 bounds-nodes-p c = (old_takeable _ _ _ _ _ _ _ _ _ _ _ _ c.loop-j.invariant c.loop-j-test.true).primary.on

@@ -23,10 +23,10 @@ pub late_bit-first-requires : goal.late_bit-first-requires
 late_bit-first-requires c = c.index-i.ensures.1
 
 pub late_bit-second-requires : goal.late_bit-second-requires
-late_bit-second-requires c = (c.index-i.ensures.1)
+late_bit-second-requires c = c.index-i.ensures.1
 
 pub late_bit-requires : goal.late_bit-requires
-late_bit-requires c = ((c.index-i.ensures.1))
+late_bit-requires c = c.index-i.ensures.1
 
 pub overflow_add-k : goal.overflow_add-k
 overflow_add-k c = omega (arith, c.loop-k-test.true, c.requires.0.few)

@@ -10,7 +10,7 @@ pub loop-j-init : goal.loop-j-init
 loop-j-init c = λ job. placing_start _ _ _ _ c.requires.1 c.requires.2
 
 pub offset_bounds-task-first : goal.offset_bounds-task-first
-offset_bounds-task-first c = omega (arith, ((c.requires.0.primary _ c.loop-j-test.true).on))
+offset_bounds-task-first c = omega (arith, (c.requires.0.primary _ c.loop-j-test.true).on)
 
 pub bounds-task-first : goal.bounds-task-first
 bounds-task-first c = (c.requires.0.primary _ c.loop-j-test.true).on
@@ -19,7 +19,7 @@ pub copy_of-p-requires : goal.copy_of-p-requires
 copy_of-p-requires c = (c.requires.0.primary _ c.loop-j-test.true).ends
 
 pub offset_bounds-task-second : goal.offset_bounds-task-second
-offset_bounds-task-second c = omega (arith, ((c.requires.0.backup _ c.loop-j-test.true).on))
+offset_bounds-task-second c = omega (arith, (c.requires.0.backup _ c.loop-j-test.true).on)
 
 pub bounds-task-second : goal.bounds-task-second
 bounds-task-second c = (c.requires.0.backup _ c.loop-j-test.true).on
@@ -28,16 +28,16 @@ pub copy_of-b-requires : goal.copy_of-b-requires
 copy_of-b-requires c = (c.requires.0.backup _ c.loop-j-test.true).ends
 
 pub offset_bounds-nodes-q : goal.offset_bounds-nodes-q
-offset_bounds-nodes-q c = omega (arith, ap (λ x. x.node) c.copy_of-p.ensures, ((c.requires.0.primary _ c.loop-j-test.true).on))
+offset_bounds-nodes-q c = omega (arith, ap (λ x. x.node) c.copy_of-p.ensures, (c.requires.0.primary _ c.loop-j-test.true).on)
 
 pub bounds-nodes-q : goal.bounds-nodes-q
-bounds-nodes-q c = omega (arith, ap (λ x. x.node) c.copy_of-p.ensures, ((c.requires.0.primary _ c.loop-j-test.true).on))
+bounds-nodes-q c = omega (arith, ap (λ x. x.node) c.copy_of-p.ensures, (c.requires.0.primary _ c.loop-j-test.true).on)
 
 pub offset_bounds-nodes-r : goal.offset_bounds-nodes-r
-offset_bounds-nodes-r c = omega (arith, ap (λ x. x.node) c.copy_of-b.ensures, ((c.requires.0.backup _ c.loop-j-test.true).on))
+offset_bounds-nodes-r c = omega (arith, ap (λ x. x.node) c.copy_of-b.ensures, (c.requires.0.backup _ c.loop-j-test.true).on)
 
 pub bounds-nodes-r : goal.bounds-nodes-r
-bounds-nodes-r c = omega (arith, ap (λ x. x.node) c.copy_of-b.ensures, ((c.requires.0.backup _ c.loop-j-test.true).on))
+bounds-nodes-r c = omega (arith, ap (λ x. x.node) c.copy_of-b.ensures, (c.requires.0.backup _ c.loop-j-test.true).on)
 
 pub overflow_add-p : goal.overflow_add-p
 overflow_add-p c =

@@ -9,11 +9,11 @@ set_losses-requires c = let pre = c.requires in (losable _ _ _ pre.0, pre.1, ref
 
 pub returns-then-not-all_end : goal.returns-then-not-all_end
 returns-then-not-all_end c =
-    λ w. not_ended _ _ _ w _ _ _ _ (c.run_all.ensures w) _ c.set_losses.ensures _ _ c.all_end.ensures (c.if-not-all_end.true)
+    λ w. not_ended _ _ _ w _ _ _ _ (c.run_all.ensures w) _ c.set_losses.ensures _ _ c.all_end.ensures c.if-not-all_end.true
 
 pub returns-then-not-all_done : goal.returns-then-not-all_done
 returns-then-not-all_done c =
-    λ w. not_done _ _ _ w _ _ _ _ (c.run_all.ensures w) _ c.set_losses.ensures _ _ c.all_done.ensures (c.if-not-all_done.true)
+    λ w. not_done _ _ _ w _ _ _ _ (c.run_all.ensures w) _ c.set_losses.ensures _ _ c.all_done.ensures c.if-not-all_done.true
 
 pub overlapping-requires : goal.overlapping-requires
 overlapping-requires c = low _ _ _ c.requires.0
@@ -26,5 +26,5 @@ returns-in_default c =
 pub returns : goal.returns
 returns c =
     λ w. passing _ _ _ w _ _ _ _ (c.run_all.ensures w) _ c.set_losses.ensures _ _ c.overlapping.ensures _ _
-    c.all_end.ensures (c.if-not-all_end.false) c.all_done.ensures
-    (c.if-not-all_done.false) c.in-Done.is
+    c.all_end.ensures c.if-not-all_end.false c.all_done.ensures
+    c.if-not-all_done.false c.in-Done.is

@@ -14,10 +14,10 @@ pub returns-then-n-j : goal.returns-then-n-j
 returns-then-n-j c = noting_done _ _ _ _ _ _ _ _ c.loop-r.invariant c.requires.0 (λ p. c.if-n-j.true)
 
 pub overflow_cast-p : goal.overflow_cast-p
-overflow_cast-p c = omega (arith, (c.requires.0.on _ c.if-n-j.false))
+overflow_cast-p c = omega (arith, c.requires.0.on _ c.if-n-j.false)
 
 pub offset_bounds-nodes-p : goal.offset_bounds-nodes-p
-offset_bounds-nodes-p c = omega (arith, (c.requires.0.on _ c.if-n-j.false))
+offset_bounds-nodes-p c = omega (arith, c.requires.0.on _ c.if-n-j.false)
 
 pub bounds-nodes-p : goal.bounds-nodes-p
 bounds-nodes-p c = c.requires.0.on _ c.if-n-j.false
