@@ -7,21 +7,21 @@ use Rattle.reader.specs.Limits.{max_send, max_time, max_start}
 use Rattle.reader.specs.Entries.{no_node}
 use Rattle.reader.specs.Tests.{◌and◌, ◌implies◌}
 use Rattle.rules.specs.declared.Copy.{Copy}
-use Rattle.copies.specs.declared.arrival.Result.{Result}
+use Rattle.copies.specs.declared.arrival.Outgoing.{Outgoing}
 use Rattle.copies.specs.declared.table.Copies.{Copies}
 use Rattle.copies.specs.Sets.{meets}
 use Rattle.copies.specs.Table.{copy_count, entry}
 
 -- from when a result is on node n
-unfoldable pub arrival_of : Result → ℕ → ℕ
+unfoldable pub arrival_of : Outgoing → ℕ → ℕ
 arrival_of r n = cond (eqb r.node n) r.here r.away
 
 -- it comes in time for copy d
-abbrev pub comes : Result → Copy → Bool
+abbrev pub comes : Outgoing → Copy → Bool
 comes r d = leb (arrival_of r d.node) d.start
 
 -- in time for d, of set m, come the result p of a primary, and where the two sets meet the result b of its backup, of set z
-abbrev pub fed_of : Result → Result → ℕ → Copy → ℕ → Bool
+abbrev pub fed_of : Outgoing → Outgoing → ℕ → Copy → ℕ → Bool
 fed_of p b z d m = comes p d and (meets z m implies comes b d)
 
 -- when the result of copy c has left its node, one of these; of a job's; and the result as it goes out by link l
@@ -31,11 +31,11 @@ leave_by nodes c = c.finish + (get_or nodes c.node no_node).send
 abbrev pub leave_of : Job → Copy → ℕ
 leave_of job = leave_by job.nodes
 
-abbrev pub result_of : Job → Link → Copy → Result
+abbrev pub result_of : Job → Link → Copy → Outgoing
 result_of job l c = record { node = c.node; here = c.finish; away = leave_of job c + l.delay }
 
 -- the same of entry k, with a column that has when each result leaves
-abbrev pub result_at : List ℕ → List ℕ → List ℕ → ℕ → ℕ → Result
+abbrev pub result_at : List ℕ → List ℕ → List ℕ → ℕ → ℕ → Outgoing
 result_at node finish leave delay k = record { node = get_or node k 0; here = get_or finish k 0; away = get_or leave k 0 + delay }
 
 -- the column has it for the first n entries, and a delay can be added to each

@@ -8,7 +8,7 @@ use rules::Copy;
 
 // A copy's result as it goes out by a link: on the copy's own node from its finish on, on every other from `away` on.
 #[derive(Clone, Copy)]
-pub struct Result {
+pub struct Outgoing {
     pub node: u32,
     pub here: u32,
     pub away: u32,
@@ -28,17 +28,31 @@ pub fn pick(test: bool, a: u32, b: u32) -> u32
 }
 
 // From when the result is on node `to`.
-pub fn arrival(res: Result, to: u32) -> u32
+pub fn arrival(res: Outgoing, to: u32) -> u32
     ensures { result ≡ arrival_of res to }
 {
     if res.node == to { res.here } else { res.away }
 }
 
 // Whether it is there by the start of a copy.
-pub fn in_time(res: Result, copy: Copy) -> bool
+pub fn in_time(res: Outgoing, copy: Copy) -> bool
     ensures { result ≡ comes res copy }
 {
     arrival(res, copy.node) <= copy.start
+}
+
+impl Copies {
+    // The result of entry k, by a link of this delay; `leave` has for each entry when its result has left its node.
+    pub fn result_at(&self, leave: &[u32; Copies::COUNT], delay: u32, k: usize) -> Outgoing
+        requires { (k < copy_count) × SumFits (get_or leave.now k 0) delay }
+        ensures { result ≡ result_at self.now.node self.now.finish leave.now delay k }
+    {
+        Outgoing {
+            node: self.node[k],
+            here: self.finish[k],
+            away: leave[k] + delay,
+        }
+    }
 }
 
 // The result of entry k of the table, by a link of this delay; `leave` has for each entry when its result has left its node.
@@ -48,11 +62,11 @@ pub fn result_at<'c>(
     leave: &'c [u32; Copies::COUNT],
     delay: u32,
     k: usize,
-) -> Result
+) -> Outgoing
     requires { (k < copy_count) × SumFits (get_or leave.now k 0) delay }
     ensures { result ≡ result_at node.now finish.now leave.now delay k }
 {
-    Result {
+    Outgoing {
         node: node[k],
         here: finish[k],
         away: leave[k] + delay,

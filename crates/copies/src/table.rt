@@ -1,6 +1,6 @@
 // The flat table of copies: entries 2j and 2j + 1 are task j's primary and backup.
 ghost use Rattle.std.specs.Prelude.{◌≡◌, ◌<◌, []};
-ghost use Rattle.copies.specs.Table.{copy_count, table, entry, Whole, Stored};
+ghost use Rattle.copies.specs.Table.{copy_count, table, entry, empty_copies, Whole, Stored};
 
 use reader::job::Job;
 use rules::Copy;
@@ -21,6 +21,40 @@ impl Copies {
 
     // Of the layout: room for all of them on each node.
     pub const SPOTS: usize = Job::MAX_NODES * Copies::COUNT;
+
+    pub fn empty() -> Copies
+        ensures { result ≡ empty_copies }
+    {
+        Copies {
+            node: [0; Copies::COUNT],
+            start: [0; Copies::COUNT],
+            finish: [0; Copies::COUNT],
+            set: [0; Copies::COUNT],
+        }
+    }
+
+    // Stores entry k.
+    pub fn put(&mut self, k: usize, copy: Copy, set: u32)
+        requires { Whole self.old × (k < copy_count) }
+        ensures { Whole self.new × Stored self.old k copy set self.new }
+    {
+        self.node[k] = copy.node;
+        self.start[k] = copy.start;
+        self.finish[k] = copy.finish;
+        self.set[k] = set;
+    }
+
+    // Entry k.
+    pub fn at(&self, k: usize) -> Copy
+        requires { k < copy_count }
+        ensures { result ≡ entry self.now k }
+    {
+        Copy {
+            node: self.node[k],
+            start: self.start[k],
+            finish: self.finish[k],
+        }
+    }
 }
 
 // Stores entry k.

@@ -10,7 +10,7 @@ use Rattle.reader.specs.declared.job.Link.{Link}
 use Rattle.reader.specs.Tests.{◌and◌, ◌implies◌}
 use Rattle.reader.specs.Entries.{no_link}
 use Rattle.rules.specs.declared.Copy.{Copy}
-use Rattle.copies.specs.declared.arrival.Result.{Result}
+use Rattle.copies.specs.declared.arrival.Outgoing.{Outgoing}
 use Rattle.copies.specs.declared.table.Copies.{Copies}
 use Rattle.copies.specs.Sets.{meets}
 use Rattle.copies.specs.Arrival.{fed_of, result_at}
@@ -34,7 +34,7 @@ module _ (x y : Bool) (s t : ℕ) where
 -- of the results and the copy at link k's ends
 pub feeds_at : (list : List Link) (cs : Copies) (leave : List ℕ) (k i j : ℕ) → i ≡ (get_or list k no_link).from → j ≡ (get_or list k no_link).to
     → let result = result_at cs.node cs.finish leave (get_or list k no_link).delay in
-    (p b : Result) (c : Copy) (r : Bool) → p ≡ result (2 * i) → b ≡ result (2 * i + 1) → c ≡ entry cs (2 * j + 1)
+    (p b : Outgoing) (c : Copy) (r : Bool) → p ≡ result (2 * i) → b ≡ result (2 * i + 1) → c ≡ entry cs (2 * j + 1)
     → r ≡ fed_of p b (set_at cs (2 * i + 1)) c (set_at cs (2 * j + 1)) → r ≡ link_feeds list cs leave k
 unfolding link_feeds
 feeds_at list cs leave k i j ei ej p b c r ep eb ec er = er ∙ rw (ep, eb, ec, ei, ej)

@@ -28,7 +28,7 @@ use Rattle.rules.specs.Copies.{in_time}
 use Rattle.rules.specs.Rules.{Row, strong, rule_d}
 use Rattle.rules.specs.Waits.{waits_for_both}
 use Rattle.rules.specs.Judge.{first_link}
-use Rattle.copies.specs.declared.arrival.Result.{Result}
+use Rattle.copies.specs.declared.arrival.Outgoing.{Outgoing}
 use Rattle.copies.specs.declared.table.Copies.{Copies}
 use Rattle.copies.specs.Sets.{has}
 use Rattle.copies.specs.Arrival.{comes, result_of, result_at, SumFits}
@@ -120,19 +120,19 @@ module _ (list : List Link) (n : ℕ) (cs : Copies) (leave : List ℕ) (timed : 
   abbrev job : Job
   job = linked timed.job list n
 
-  abbrev result : ℕ → Result
+  abbrev result : ℕ → Outgoing
   result = result_at cs.node cs.finish leave (link job k).delay
 
   -- the result of entry m i at entry n j
   arrival : (m n : ℕ → ℕ) → result (m (link job k).from) ≡ result_of job (link job k) (entry cs (m (link job k).from))
-      → (c : Result) (d : Copy) (r : Bool) → c ≡ result (m i) → d ≡ entry cs (n j) → r ≡ comes c d
+      → (c : Outgoing) (d : Copy) (r : Bool) → c ≡ result (m i) → d ≡ entry cs (n j) → r ≡ comes c d
       → r ≡ in_time job (link job k) (entry cs (m (link job k).from)) (entry cs (n (link job k).to))
   arrival m n is c d r ec ed er =
       er ∙ ap₂ comes (ec ∙ ap (λ x. result (m x)) ei ∙ is) (ed ∙ ap (λ x. entry cs (n x)) ej)
       ∙ comes_is job (link job k) _ _
 
   pub walk_more : (into : List ℕ) (primary unsure : ℕ) → Walking job cs k into primary unsure
-      → (p b : Result) (q c : Copy) → p ≡ result (2 * i) → b ≡ result (2 * i + 1) → q ≡ entry cs (2 * j) → c ≡ entry cs (2 * j + 1)
+      → (p b : Outgoing) (q c : Copy) → p ≡ result (2 * i) → b ≡ result (2 * i + 1) → q ≡ entry cs (2 * j) → c ≡ entry cs (2 * j + 1)
       → (x y z s : Bool) → x ≡ comes p q → y ≡ comes p c → z ≡ comes b c → s ≡ comes b q
       → (u v w bit : ℕ) → u ≡ noted_of primary k x → v ≡ cond y 0 (2 ^ i) → w ≡ cond z 0 (2 ^ i) → bit ≡ cond s 0 (2 ^ i)
       → Walking job cs (k + 1) (set into j (bit_or (get_or into j 0) bit)) u (bit_or (bit_or unsure v) w)

@@ -6,7 +6,7 @@ ghost use Rattle.copies.specs.Table.{table};
 ghost use Rattle.judge.specs.Backups.{backup_breach, Unsure};
 
 use crate::links::index;
-use copies::arrival::{Result, in_time, result_at};
+use copies::arrival::{Outgoing, in_time, result_at};
 use copies::sets::bit_of_task;
 use copies::table::{Copies, copy_at};
 use reader::job::{Job, Link};
@@ -14,7 +14,7 @@ use reader::refusal::{Answer, Refusal};
 use rules::Copy;
 
 // Whether the backup c, of set t, has the result p in time, and where the sets meet b, which is of set s.
-fn fed(p: Result, b: Result, s: u32, c: Copy, t: u32) -> bool
+fn fed(p: Outgoing, b: Outgoing, s: u32, c: Copy, t: u32) -> bool
     ensures { result ≡ fed_of p b s c t }
 {
     if !in_time(p, c) {

@@ -11,7 +11,7 @@ use Rattle.reader.specs.Tests.{◌and◌, ◌implies◌}
 use Rattle.reader.proofs.TestLaws.{split, and_i, and_l, and_r, and_if, and_yes, and_join, same_test}
 use Rattle.reader.proofs.FirstLaws.{every_start}
 use Rattle.rules.specs.declared.Copy.{Copy}
-use Rattle.copies.specs.declared.arrival.Result.{Result}
+use Rattle.copies.specs.declared.arrival.Outgoing.{Outgoing}
 use Rattle.copies.specs.Sets.{meets}
 use Rattle.copies.specs.Arrival.{arrival_of, comes}
 use Rattle.copies.specs.Chain.{Chain}
@@ -53,7 +53,7 @@ record Step (test : Copy → Bool) (r s : Reach) : Type 0 where
   reached : (d : Copy) → (d.node ≡ s.from → ⊥) → test d ≡ true → ((d.node ≡ r.from → ⊥) → r.at ≤ d.start) → s.at ≤ d.start
 
 -- a result that is elsewhere no sooner than here, and not too late
-module _ (c : Result) (soon : InBy c) where
+module _ (c : Outgoing) (soon : InBy c) where
   -- it is on every node by then, and on another not before
   arrival_most : (n : ℕ) → arrival_of c n ≤ c.away
   unfolding arrival_of
@@ -169,10 +169,10 @@ module _ (next from delay : List ℕ) (rs : Results) (last set : ℕ) where
 
   -- one link more, by which x comes
   module _ (left : ℕ) (x : Sender) (n : Next next from delay rs last left x) where
-    abbrev p : Result
+    abbrev p : Outgoing
     p = x.primary
 
-    abbrev b : Result
+    abbrev b : Outgoing
     b = x.backup
 
     -- whether it counts

@@ -21,7 +21,7 @@ use Rattle.rules.specs.Rules.{Row, rows, rule_ready}
 use Rattle.rules.specs.Times.{TimesSound, ended_rows}
 use Rattle.rules.specs.Replay.{TaskRun, arrived, fed, run_task, replay_times}
 use Rattle.rules.proofs.FaultSetLaws.{runs_own}
-use Rattle.copies.specs.declared.arrival.Result.{Result}
+use Rattle.copies.specs.declared.arrival.Outgoing.{Outgoing}
 use Rattle.copies.specs.Arrival.{arrival_of, result_of, SumFits}
 use Rattle.copies.proofs.ArrivalLaws.{leb_max}
 use Rattle.replay.specs.declared.states.Pair.{Pair}
@@ -121,7 +121,7 @@ module _ (job : Job) (plan : Plan) (times : Times) (loss : Loss) (all : Sound jo
           let most = sent_most (replayed job plan times loss i) (omega (arith, finish_most job plan times all i i_below (R i))) in
           rw at_is (omega (arith, most, sound.send_most _ node_below, sound.delay_most k more))
 
-      abbrev result : Result
+      abbrev result : Outgoing
       result = result_of job (link job k) (sender (get_or r.node i 0) (get_or r.at i 0))
 
       -- the ready time of the receiver, for the copies c

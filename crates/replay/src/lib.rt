@@ -18,7 +18,7 @@ use crate::inputs::{sent_at, sent_from};
 use crate::progress::Progress;
 use crate::states::{Outcome, pair_of, settle};
 use crate::write::write_outcomes;
-use copies::arrival::{Result, arrival, later};
+use copies::arrival::{Outgoing, arrival, later};
 use reader::job::Job;
 use reader::plan::Plan;
 use rules::{Loss, Times};
@@ -52,7 +52,7 @@ pub fn replay_plan(job: Job, plan: Plan, given: bool, times: Times, loss: Loss) 
                 let sender = job.nodes[q];
                 let here = r.at[i];
                 let away = here + sender.send + l.delay;
-                let result = Result { node, here, away };
+                let result = Outgoing { node, here, away };
                 r.primary[t] = later(r.primary[t], arrival(result, x.primary_node));
                 r.backup[t] = later(r.backup[t], arrival(result, x.backup_node));
                 k += 1;

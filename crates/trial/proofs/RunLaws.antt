@@ -10,7 +10,7 @@ use Rattle.reader.specs.declared.job.Link.{Link}
 use Rattle.reader.specs.declared.job.Node.{Node}
 use Rattle.rules.specs.declared.Copy.{Copy}
 use Rattle.copies.specs.declared.table.Copies.{Copies}
-use Rattle.copies.specs.declared.arrival.Result.{Result}
+use Rattle.copies.specs.declared.arrival.Outgoing.{Outgoing}
 use Rattle.copies.specs.Arrival.{result_at}
 use Rattle.copies.specs.Table.{entry}
 use Rattle.trial.specs.Words.{run_count, without_of, spared_in}
@@ -18,15 +18,15 @@ use Rattle.trial.specs.Runs.{fed_of, fed_one, fed_with, Settled}
 
 -- one link, as the code goes
 module _ (cs : Copies) (leave : List ℕ) (l : Link) (ended : List ℕ) where
-  abbrev result : ℕ → Result
+  abbrev result : ℕ → Outgoing
   result = result_at cs.node cs.finish leave l.delay
 
-  fed_one_lem : (k : ℕ) (fed : List ℕ) (p b : Result) (c : Copy) (w : ℕ) → p ≡ result (2 * l.from) → b ≡ result (2 * l.from + 1)
+  fed_one_lem : (k : ℕ) (fed : List ℕ) (p b : Outgoing) (c : Copy) (w : ℕ) → p ≡ result (2 * l.from) → b ≡ result (2 * l.from + 1)
       → c ≡ entry cs k → w ≡ fed_of p b (get_or ended (2 * l.from) 0) (get_or ended (2 * l.from + 1) 0) c
       → set fed k (bit_and (get_or fed k 0) w) ≡ fed_one cs leave l ended k fed
   fed_one_lem k fed p b c w ep eb ec ew = rw (ew, ec, ep, eb)
 
-  pub fed_sent : (fed : List ℕ) (p b : Result) (q c : Copy) (v w : ℕ) → p ≡ result (2 * l.from) → b ≡ result (2 * l.from + 1)
+  pub fed_sent : (fed : List ℕ) (p b : Outgoing) (q c : Copy) (v w : ℕ) → p ≡ result (2 * l.from) → b ≡ result (2 * l.from + 1)
       → q ≡ entry cs (2 * l.to) → v ≡ fed_of p b (get_or ended (2 * l.from) 0) (get_or ended (2 * l.from + 1) 0) q
       → c ≡ entry cs (2 * l.to + 1) → w ≡ fed_of p b (get_or ended (2 * l.from) 0) (get_or ended (2 * l.from + 1) 0) c
       → let once = set fed (2 * l.to) (bit_and (get_or fed (2 * l.to) 0) v) in

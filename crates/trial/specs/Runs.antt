@@ -15,20 +15,20 @@ use Rattle.rules.specs.Replay.{is_finished, replay}
 use Rattle.rules.specs.Survival.{Role, primary, backup, state_of}
 use Rattle.rules.specs.Trial.{is_started}
 use Rattle.copies.specs.declared.table.Copies.{Copies}
-use Rattle.copies.specs.declared.arrival.Result.{Result}
+use Rattle.copies.specs.declared.arrival.Outgoing.{Outgoing}
 use Rattle.copies.specs.Arrival.{comes, result_at, SumFits, Leaving}
 use Rattle.copies.specs.Table.{copy_count, entry}
 use Rattle.judge.specs.Tasks.{Copied}
 use Rattle.trial.specs.Words.{run_count, Tells, Narrow, without_of, either_of, spared_in}
 
 -- the runs in which a copy c has one of the results p and b, sent in the runs x and y
-abbrev pub fed_of : Result → Result → ℕ → ℕ → Copy → ℕ
+abbrev pub fed_of : Outgoing → Outgoing → ℕ → ℕ → Copy → ℕ
 fed_of p b x y c = either_of (comes p c) x (comes b c) y
 
 -- of a table, with when its results leave: the runs in which c has an input, by link l, from the copies that end in these runs
 abbrev pub fed_by : Copies → List ℕ → Link → List ℕ → Copy → ℕ
 fed_by cs leave l ended c =
-    let result : ℕ → Result = result_at cs.node cs.finish leave l.delay in
+    let result : ℕ → Outgoing = result_at cs.node cs.finish leave l.delay in
     fed_of (result (2 * l.from)) (result (2 * l.from + 1)) (get_or ended (2 * l.from) 0) (get_or ended (2 * l.from + 1) 0) c
 
 -- the runs in which copies have their inputs, with those of one link more

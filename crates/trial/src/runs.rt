@@ -5,14 +5,14 @@ ghost use Rattle.copies.specs.Table.{copy_count, table, entry};
 ghost use Rattle.trial.specs.Runs.{fed_of, fed_with, Sendable, Settleable, Settled, Placed, Told};
 
 use crate::words::{RUNS, either, spared, without};
-use copies::arrival::{Result, in_time, pick, result_at};
+use copies::arrival::{Outgoing, in_time, pick, result_at};
 use copies::sets::ALL;
 use copies::table::{Copies, copy_at};
 use reader::job::{Job, Link, Node};
 use rules::Copy;
 
 // The runs in which a copy has one of two results, of copies that end in these runs.
-fn fed_by(p: Result, b: Result, x: u32, y: u32, c: Copy) -> u32
+fn fed_by(p: Outgoing, b: Outgoing, x: u32, y: u32, c: Copy) -> u32
     ensures { result ≡ fed_of p b x y c }
 {
     either(in_time(p, c), x, in_time(b, c), y)
