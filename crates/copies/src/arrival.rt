@@ -17,7 +17,7 @@ pub struct Outgoing {
 pub fn later(a: u32, b: u32) -> u32
     ensures { result ≡ max a b }
 {
-    if a < b { b } else { a }
+    a.max(b)
 }
 
 // One of two values: no jump, since tests of copies follow no pattern that a processor learns.
@@ -28,6 +28,7 @@ pub fn pick(test: bool, a: u32, b: u32) -> u32
 }
 
 // From when the result is on node `to`.
+#[tactic(auto, unfolding(crate::specs::Arrival::arrival_of))]
 pub fn arrival(res: Outgoing, to: u32) -> u32
     ensures { result ≡ arrival_of res to }
 {

@@ -19,6 +19,7 @@ pub fn bit_of_task(i: usize) -> u64
     1 << i
 }
 
+#[tactic(auto, unfolding(crate::specs::Sets::has))]
 pub fn holds(set: u32, n: u32) -> bool
     requires { n < 32 }
     ensures { result ≡ has set n }
@@ -26,16 +27,10 @@ pub fn holds(set: u32, n: u32) -> bool
     (set >> n) % 2 == 1
 }
 
-fn one_unless(kept: bool) -> u64
-    ensures { result ≡ cond kept 0 1 }
-{
-    if kept { 0 } else { 1 }
-}
-
 // The set of task i where its result is late, else none.
 pub fn late_bit(kept: bool, i: usize) -> u64
     requires { i < 64 }
     ensures { result ≡ cond kept 0 (2 ^ i) }
 {
-    one_unless(kept) << i
+    u64::from(!kept) << i
 }

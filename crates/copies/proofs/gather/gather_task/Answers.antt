@@ -1,38 +1,26 @@
 -- `copies::gather::gather_task` meets its contract.
 use native.Mathlib.Omega.{arith}
+use Rattle.copies.proofs.SetLaws.{shifted}
 use Rattle.copies.proofs.GatherLaws.{gather_start, gather_more, gather_done, gathers, sender_low, sender_part}
 use Rattle.copies.proofs.gather.gather_task.Goals as goal
 
 pub loop-left-init : goal.loop-left-init
 loop-left-init c = gather_start _ _ _
 
-pub overflow_cast-i : goal.overflow_cast-i
-overflow_cast-i c = omega (arith, sender_low c.loop-left.left (omega arith) (omega arith))
-
-pub overflow_mul-set : goal.overflow_mul-set
-overflow_mul-set c = omega (arith, sender_low c.loop-left.left (omega arith) (omega arith))
-
-pub overflow_add-set : goal.overflow_add-set
-overflow_add-set c = omega (arith, sender_low c.loop-left.left (omega arith) (omega arith))
-
-pub offset_bounds-sets-i : goal.offset_bounds-sets-i
-offset_bounds-sets-i c = omega (arith, sender_low c.loop-left.left (omega arith) (omega arith))
-
-pub bounds-sets-i : goal.bounds-sets-i
-bounds-sets-i c = omega (arith, sender_low c.loop-left.left (omega arith) (omega arith))
-
-pub bit_of_task-left-requires : goal.bit_of_task-left-requires
-bit_of_task-left-requires c = sender_low c.loop-left.left (omega arith) (omega arith)
-
 pub overflow_sub-left : goal.overflow_sub-left
-overflow_sub-left c = (sender_part c.loop-left.left (omega arith) (omega arith) _ c.bit_of_task-left.ensures).0
+overflow_sub-left c =
+    let low = sender_low c.loop-left.left (omega arith) (omega arith) in
+    (sender_part c.loop-left.left (omega arith) (omega arith) _ (shifted 64 _ low)).0
 
 pub loop-left-smaller : goal.loop-left-smaller
-loop-left-smaller c = omega (arith, sender_part c.loop-left.left (omega arith) (omega arith) _ c.bit_of_task-left.ensures)
+loop-left-smaller c =
+    let low = sender_low c.loop-left.left (omega arith) (omega arith) in
+    omega (arith, sender_part c.loop-left.left (omega arith) (omega arith) _ (shifted 64 _ low))
 
 pub loop-left-preserved : goal.loop-left-preserved
 loop-left-preserved c =
-    gather_more _ _ _ _ c.loop-left.left _ c.loop-left.invariant (omega arith) (omega arith) c.bit_of_task-left.ensures
+    let low = sender_low c.loop-left.left (omega arith) (omega arith) in
+    gather_more _ _ _ _ c.loop-left.left _ c.loop-left.invariant (omega arith) (omega arith) (shifted 64 _ low)
 
 pub returns : goal.returns
 returns c =
