@@ -152,7 +152,7 @@ pub fn put_table(out: &mut [u8], job: Job)
     while j < count {
         let task = job.tasks[j];
         let run = task.run;
-        at = put_run(out, at, nodes, run);
+        at = put_run(out, at, nodes, &run);
         j += 1;
     }
 }

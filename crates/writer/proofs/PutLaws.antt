@@ -3,9 +3,12 @@ use Prim.Native.Nat.{ℕ, zero, suc, ◌+◌, ◌*◌, ◌≤◌, ◌<◌, min}
 use mathlib.Core.Path.{◌≡◌, refl, sym, ap, ◌∙◌, subst}
 use mathlib.Core.Bool.{Bool, true, false}
 use mathlib.Core.List.{List, [], ◌∷◌, ◌++◌, append_assoc, append-nil}
-use lib.ListN.{length, set, take, drop, length-append, length-take, length-drop, take-append-drop, drop_of_length-le}
-use lib.Seq.{take-append_seam, take_all, length-take-le, drop-append-add, drop-drop, sets-eq}
-use native.Mathlib.Numerals.{add-one, add-two, add-three}
+use lib.ListN.{length, get_or, take, drop, length-append, length-take, length-drop, take-append-drop, drop_of_length-le}
+use lib.Seq.{take-append_seam, take_all, length-take-le, drop-append-add, drop-drop}
+use borrow.Rule.Slice.PartMut.{put_mid}
+use Rattle.std.specs.List.{flat_map}
+use Rattle.std.proofs.lemmas.List.{take_more, flat_map_more}
+use native.Mathlib.Numerals.{add-one}
 use native.Mathlib.Nat.{add-zero, zero-add, suc-add, mul-le-mul_right}
 use native.Mathlib.Omega.{arith}
 use Rattle.reader.specs.Number.{bytes}
@@ -14,7 +17,7 @@ use Rattle.reader.specs.Limits.{max_nodes, max_tasks, max_links, max_job_length}
 use Rattle.reader.specs.JobFile.{job_length}
 use Rattle.reader.proofs.LengthLaws.{job_length_most}
 use Rattle.writer.specs.Write.{splice, pack, flat}
-use Rattle.writer.specs.Puts.{Puts, Rows}
+use Rattle.writer.specs.Puts.{Puts, Rows, EachPut}
 
 pub splice_none : (d : List ℕ) (at : ℕ) → splice d at [] ≡ d
 unfolding splice
@@ -47,11 +50,10 @@ pub take_splice : (d s : List ℕ) → take (length s) (splice d 0 s) ≡ s
 unfolding splice
 take_splice d s = take-append_seam s (drop (0 + length s) d)
 
--- four stores are a number
-pub set_splice : (d : List ℕ) (at a b c e : ℕ) → at + 4 ≤ length d →
-    set (set (set (set d at a) (at + 1) b) (at + 2) c) (at + 3) e ≡ splice d at (a ∷ b ∷ c ∷ e ∷ [])
+-- bytes copied over a part of the buffer
+pub put_part : (d s t : List ℕ) (at k : ℕ) → t ≡ s → k ≡ length s → put_mid at k d t ≡ splice d at s
 unfolding splice
-set_splice d at a b c e h = rw (add-one, add-two, add-three) (sets-eq (a ∷ b ∷ c ∷ e ∷ []) d at h ∙ append_assoc (take at d) _ _)
+put_part d s t at k e h = rw (e, h, drop-drop)
 
 pub pack_append : (a b : List ℕ) → pack (a ++ b) ≡ pack a ++ pack b
 unfolding pack
@@ -105,7 +107,50 @@ put_size {d} {vs} {b} {n} p h = sym (length-take-le n b (omega arith))
 pub puts_end : {d vs e : List ℕ} {at k w : ℕ} → 4 * length vs ≡ w → Puts d at vs e k → k ≡ at + w
 puts_end h p = omega (arith, p.behind)
 
--- a loop that puts rows: before it, and one turn
+-- the first n rows: their bytes, and their numbers by the rows' numbers
+pub bytes_of : {T : Type 0} (w : ℕ) (rows : List T) (n : ℕ) → n ≤ length rows → length (take n rows) * w ≡ n * w
+bytes_of w rows n h = ap (λ k. k * w) (length-take-le n rows h)
+
+flat_of : {T : Type 0} (f : T → List ℕ) (rows : List T) (z : T) (n : ℕ) → n ≤ length rows →
+    flat_map f (take n rows) ≡ flat n (λ i. f (get_or rows i z))
+unfolding flat
+flat_of f rows z zero h = refl
+flat_of f rows z (suc n) h =
+    let one_more : take (suc n) rows ≡ take n rows ++ (get_or rows n z ∷ []) = rw add-one at (take_more rows n z (omega arith)) in
+    ap (flat_map f) one_more ∙ sym (flat_map_more f [] (take n rows) (get_or rows n z))
+    ∙ ap (λ vs. vs ++ f (get_or rows n z)) (flat_of f rows z n (omega arith))
+
+-- rows one behind the other: none, one more, and the room for it
+module _ {T : Type 0} {f : T → List ℕ} {w : ℕ} where
+  pub each_none : (d : List ℕ) (at : ℕ) → EachPut f w d at [] d at
+  unfolding pack
+  each_none d at = record {
+    puts = record { buffer = sym (splice_none d at); size = refl; behind = omega arith };
+    most = omega arith;
+  }
+
+  pub each_more : (rows : List T) (i : ℕ) (x : T) {d e g : List ℕ} {at k m : ℕ} → EachPut f w d at (take i rows) e k →
+      i < length rows → x ≡ get_or rows i x → Puts e k (f x) g m → m ≤ k + w → EachPut f w d at (take (i + 1) rows) g m
+  each_more rows i x {d} {e} {g} {at} {k} {m} p h is q room =
+      let one_more : take (i + 1) rows ≡ take i rows ++ (x ∷ []) = take_more rows i x h ∙ ap (λ y. take i rows ++ (y ∷ [])) (sym is) in
+      record {
+        puts = subst (λ vs. Puts d at vs g m) (flat_map_more f [] (take i rows) x ∙ ap (flat_map f) (sym one_more)) (puts_then p.puts q);
+        most = omega (arith, p.most, bytes_of w rows i (omega arith), bytes_of w rows (i + 1) (omega arith));
+      }
+
+  pub each_room : (rows : List T) (i : ℕ) {d e : List ℕ} {at k : ℕ} → EachPut f w d at (take i rows) e k →
+      i < length rows → at + length rows * w ≤ length d → k + w ≤ length e
+  each_room rows i p h room = omega (arith, p.most, p.puts.size, bytes_of w rows i (omega arith), mul-le-mul_right w h)
+
+  -- the same rows by number
+  pub each_rows : (rows : List T) (z : T) {n : ℕ} {d e : List ℕ} {at k : ℕ} → n ≤ length rows → EachPut f w d at (take n rows) e k →
+      Rows (λ i. f (get_or rows i z)) w d at n e k
+  each_rows rows z {n} {d} {e} {at} {k} h p = record {
+    puts = subst (λ vs. Puts d at vs e k) (flat_of f rows z n h) p.puts;
+    most = omega (arith, p.most, bytes_of w rows n h);
+  }
+
+-- a loop that puts rows by number: before it, and one turn
 pub rows_none : {row : ℕ → List ℕ} {w : ℕ} (d : List ℕ) (at : ℕ) → Rows row w d at 0 d at
 unfolding flat pack
 rows_none d at = record {
@@ -120,11 +165,6 @@ rows_more {row} {w} {i} p q h = record {
   puts = rw add-one (puts_then p.puts q);
   most = omega arith;
 }
-
--- there is room for the next of n rows where there is room for all
-pub row_room : {row : ℕ → List ℕ} {w i : ℕ} {d e : List ℕ} {at k : ℕ} (n : ℕ) →
-    Rows row w d at i e k → i < n → at + n * w ≤ length d → k + w ≤ length e
-row_room {row} {w} {i} n p h room = omega (arith, p.most, p.puts.size, mul-le-mul_right w h)
 
 -- counts clipped to their arrays leave room for the longest job
 pub job_room : (v a b c : ℕ) {p n m : ℕ} → p ≡ min a max_nodes → n ≡ min b max_tasks → m ≡ min c max_links

@@ -1,11 +1,9 @@
 -- Laws of writing a file: what was put is read back, refused, or sent.
-use Prim.Native.Nat.{ℕ, suc, ◌+◌, ◌≤◌, ◌<◌}
+use Prim.Native.Nat.{ℕ, ◌≤◌, ◌<◌}
 use mathlib.Core.Path.{◌≡◌, sym, ap, ◌∙◌}
 use mathlib.Core.List.{List, ◌++◌}
 use mathlib.Core.Option.{Option}
-use lib.ListN.{length, get_or, set, take, drop}
-use lib.Seq.{take-length, take-suc, drop-cons, set_at, append_snoc, length-take-le}
-use native.Mathlib.Numerals.{add-one}
+use lib.ListN.{length, take, drop}
 use native.Mathlib.Omega.{arith}
 use borrow.Author.Tests.{le-leb, lt-leb}
 use Rattle.reader.specs.declared.job.Job.{Job}
@@ -28,24 +26,15 @@ use Rattle.reader.proofs.RefusalLaws.{answered_done, answered_refused}
 use Rattle.reader.proofs.Promise.{job_done}
 use Rattle.writer.proofs.PutLaws.{length_pack, take_splice}
 
--- one turn of a copy
-pub copy_more : (s d b : List ℕ) (i : ℕ) → i < length s → i < length d → b ≡ take i s ++ drop i d →
-    set b i (get_or s i 0) ≡ take (i + 1) s ++ drop (i + 1) d
-copy_more s d b i hs hd e =
-    ap (λ l. set l i (get_or s i 0)) (e ∙ ap (λ l. take i s ++ l) (drop-cons d i 0 hd))
-    ∙ set_at (take i s) (get_or d i 0) (drop (suc i) d) (get_or s i 0) i (length-take-le i s (omega arith))
-    ∙ sym (append_snoc (take i s) (get_or s i 0) (drop (suc i) d))
-    ∙ rw (add-one, take-suc s i 0)
-
 module _ (s out : List ℕ) where
   pub send_short : length out < length s → writes (room_fault out (length s)) s out ≡ record { answer = Refused (ShortBuffer (length s)); buffer = out }
   unfolding room_fault unless
   send_short h = rw lt-leb
 
-  pub send_whole : (b : List ℕ) (i : ℕ) → length s ≤ length out → b ≡ take i s ++ drop i out → i ≡ length s →
-      writes (room_fault out (length s)) s out ≡ record { answer = Done; buffer = b }
+  pub send_whole : (b : List ℕ) → length s ≤ length out → b ≡ s →
+      writes (room_fault out (length s)) s out ≡ record { answer = Done; buffer = b ++ drop (length s) out }
   unfolding room_fault unless
-  send_whole b i h w e = rw (le-leb, w, e, take-length)
+  send_whole b h w = rw (le-leb, w)
 
 -- the front of a buffer that a file's numbers were put into
 pub front : (d vs b : List ℕ) (n : ℕ) → Puts d 0 vs b n → take n b ≡ pack vs

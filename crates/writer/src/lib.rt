@@ -1,16 +1,15 @@
 // Writing a job file, and a plan file after its job.
 #![tactic(auto)]
 
-ghost use Rattle.std.specs.Prelude.{◌≡◌, [], ◌∷◌, ◌+◌, ◌*◌, ◌≤◌, min, length, get_or};
-ghost use Rattle.reader.specs.Limits.{max_nodes, max_tasks, max_links, max_job_length, max_plan_length};
-ghost use Rattle.reader.specs.Entries.{no_node, no_task, no_link, no_place};
+ghost use Rattle.std.specs.Prelude.{◌≡◌, ℕ, List, [], ◌∷◌, ◌+◌, ◌*◌, ◌≤◌, min, length, get_or};
+ghost use Rattle.reader.specs.Limits.{max_nodes, max_tasks, max_job_length, max_plan_length};
 ghost use Rattle.reader.specs.Fields.{width_if, held_if};
 ghost use Rattle.reader.specs.JobFile.{node_width, task_width};
 ghost use Rattle.reader.specs.PlanFile.{plan_length};
 ghost use Rattle.writer.specs.Write.{splice, node_numbers, task_numbers, link_numbers, place_numbers, job_numbers, plan_numbers};
 ghost use Rattle.writer.specs.Write.{room_fault, writes, write_job, write_plan};
 ghost use Rattle.reader.specs.Number.{bytes};
-ghost use Rattle.writer.specs.Puts.{Puts, Rows};
+ghost use Rattle.writer.specs.Puts.{Puts, Rows, EachPut};
 
 use reader::job::{Job, Link, Node, Task};
 use reader::job_file::read_job;
@@ -18,23 +17,12 @@ use reader::plan::{Place, Plan};
 use reader::plan_file::read_plan;
 use reader::refusal::{Answer, Refusal};
 
-// A count, or the length of the array that it counts.
-fn clip(count: u32, most: usize) -> usize
-    ensures { result ≡ min count most }
-{
-    let n = count as usize;
-    if n < most { n } else { most }
-}
-
 // Puts a number at an offset.
 pub fn put_number(d: &mut [u8], at: usize, v: u32)
     requires { at + 4 ≤ length d.old }
     ensures { d.new ≡ splice d.old at (bytes v) }
 {
-    d[at] = (v % 256) as u8;
-    d[at + 1] = (v / 256 % 256) as u8;
-    d[at + 2] = (v / 65536 % 256) as u8;
-    d[at + 3] = (v / 16777216 % 256) as u8;
+    d[at..at + 4].copy_from_slice(&v.to_le_bytes());
 }
 
 // The same; gives the offset behind, as all functions that put do.
@@ -51,113 +39,128 @@ fn put_if(d: &mut [u8], at: usize, has: bool, v: u32) -> usize
     requires { at + width_if has ≤ length d.old }
     ensures { Puts d.old at (held_if has v []) d.new result }
 {
-    if has {
-        return put(d, at, v);
+    if has { put(d, at, v) } else { at }
+}
+
+// What a file has rows of: the numbers of a row, in at most so many bytes, by a form that all rows of one file share.
+pub trait Entry {
+    type Form: Copy;
+
+    ghost numbers: { Self.Form → Self → List ℕ };
+
+    ghost width: { Self.Form → ℕ };
+
+    fn put(&self, d: &mut [u8], at: usize, form: Self::Form) -> usize
+        requires { at + width form ≤ length d.old }
+        ensures puts { Puts d.old at (numbers form self.now) d.new result }
+        ensures most { result ≤ at + width form };
+}
+
+// Rows, one behind the other, from an offset.
+fn put_rows<T: Entry>(d: &mut [u8], from: usize, form: T::Form, rows: &[T]) -> usize
+    requires { from + length rows.now * T.width form ≤ length d.old }
+    ensures { EachPut (T.numbers form) (T.width form) d.old from rows.now d.new result }
+{
+    let mut at = from;
+    for x in rows {
+        at = x.put(d, at, form);
     }
     at
+}
+
+// A number alone.
+impl Entry for u32 {
+    type Form = ();
+
+    ghost numbers = { λ _ v. v ∷ [] };
+
+    ghost width = { λ _. 4 };
+
+    fn put(&self, d: &mut [u8], at: usize, _form: ()) -> usize {
+        put(d, at, *self)
+    }
 }
 
 // A node: its detect time, in every version, and its send time and its group where the version has them.
-fn put_node(d: &mut [u8], at: usize, version: usize, node: Node) -> usize
-    requires { at + node_width version ≤ length d.old }
-    ensures { Puts d.old at (node_numbers version node) d.new result }
-{
-    let then = put(d, at, node.detect);
-    let last = put_if(d, then, Job::SEND_SINCE <= version, node.send);
-    put_if(d, last, Job::GROUP_SINCE <= version, node.group)
+impl Entry for Node {
+    type Form = usize;
+
+    ghost numbers = { node_numbers };
+
+    ghost width = { node_width };
+
+    fn put(&self, d: &mut [u8], at: usize, version: usize) -> usize {
+        let then = put(d, at, self.detect);
+        let last = put_if(d, then, Job::SEND_SINCE <= version, self.send);
+        put_if(d, last, Job::GROUP_SINCE <= version, self.group)
+    }
 }
 
-// The first nodes, from an offset.
-fn put_nodes(
-    d: &mut [u8],
-    from: usize,
+// What the tasks of a file share: its version, and how many nodes there are.
+#[derive(Clone, Copy)]
+pub struct TaskForm {
     version: usize,
-    count: usize,
-    nodes: [Node; Job::MAX_NODES],
-) -> usize
-    requires { (count ≤ max_nodes) × (from + count * node_width version ≤ length d.old) }
-    ensures { Rows (λ i. node_numbers version (get_or nodes i no_node)) (node_width version) d.old from count d.new result }
-{
-    let mut at = from;
-    let mut i: usize = 0;
-    while i < count {
-        let node = nodes[i];
-        at = put_node(d, at, version, node);
-        i += 1;
-    }
-    at
-}
-
-// The first run times of a task.
-pub fn put_run(d: &mut [u8], from: usize, count: usize, run: [u32; Job::MAX_NODES]) -> usize
-    requires { (count ≤ max_nodes) × (from + 4 * count ≤ length d.old) }
-    ensures { Rows (λ i. get_or run i 0 ∷ []) 4 d.old from count d.new result }
-{
-    let mut at = from;
-    let mut i: usize = 0;
-    while i < count {
-        at = put(d, at, run[i]);
-        i += 1;
-    }
-    at
+    nodes: usize,
+    ghost nodes_most: { nodes ≤ max_nodes },
 }
 
 // A task: its ready time where the version has it, its deadline, and its run time on each node.
-fn put_task(d: &mut [u8], at: usize, version: usize, nodes: usize, task: Task) -> usize
-    requires { (nodes ≤ max_nodes) × (at + task_width version nodes ≤ length d.old) }
-    ensures { Puts d.old at (task_numbers version nodes task) d.new result }
-{
-    let run = task.run;
-    let then = put_if(d, at, Job::READY_SINCE <= version, task.ready);
-    let behind = put(d, then, task.deadline);
-    put_run(d, behind, nodes, run)
-}
+impl Entry for Task {
+    type Form = TaskForm;
 
-// The first tasks.
-fn put_tasks(
-    d: &mut [u8],
-    from: usize,
-    version: usize,
-    nodes: usize,
-    count: usize,
-    tasks: [Task; Job::MAX_TASKS],
-) -> usize
-    requires { (count ≤ max_tasks) × (nodes ≤ max_nodes) × (from + count * task_width version nodes ≤ length d.old) }
-    ensures { Rows (λ j. task_numbers version nodes (get_or tasks j no_task)) (task_width version nodes)
-        d.old from count d.new result }
-{
-    let mut at = from;
-    let mut i: usize = 0;
-    while i < count {
-        let task = tasks[i];
-        at = put_task(d, at, version, nodes, task);
-        i += 1;
+    ghost numbers = { λ form task. task_numbers form.version form.nodes task };
+
+    ghost width = { λ form. task_width form.version form.nodes };
+
+    fn put(&self, d: &mut [u8], at: usize, form: TaskForm) -> usize {
+        let then = put_if(d, at, Job::READY_SINCE <= form.version, self.ready);
+        let behind = put(d, then, self.deadline);
+        put_run(d, behind, form.nodes, &self.run)
     }
-    at
 }
 
-fn put_link(d: &mut [u8], at: usize, link: Link) -> usize
-    requires { at + 12 ≤ length d.old }
-    ensures { Puts d.old at (link_numbers link) d.new result }
-{
-    let to = put(d, at, link.from);
-    let delay = put(d, to, link.to);
-    put(d, delay, link.delay)
-}
+impl Entry for Link {
+    type Form = ();
 
-// The first links.
-fn put_links(d: &mut [u8], from: usize, count: usize, links: [Link; Job::MAX_LINKS]) -> usize
-    requires { (count ≤ max_links) × (from + 12 * count ≤ length d.old) }
-    ensures { Rows (λ k. link_numbers (get_or links k no_link)) 12 d.old from count d.new result }
-{
-    let mut at = from;
-    let mut i: usize = 0;
-    while i < count {
-        let link = links[i];
-        at = put_link(d, at, link);
-        i += 1;
+    ghost numbers = { λ _ link. link_numbers link };
+
+    ghost width = { λ _. 12 };
+
+    fn put(&self, d: &mut [u8], at: usize, _form: ()) -> usize {
+        let to = put(d, at, self.from);
+        let delay = put(d, to, self.to);
+        put(d, delay, self.delay)
     }
-    at
+}
+
+impl Entry for Place {
+    type Form = ();
+
+    ghost numbers = { λ _ place. place_numbers place };
+
+    ghost width = { λ _. 16 };
+
+    fn put(&self, d: &mut [u8], at: usize, _form: ()) -> usize {
+        let start = put(d, at, self.primary_node);
+        let backup = put(d, start, self.primary_start);
+        let last = put(d, backup, self.backup_node);
+        put(d, last, self.backup_start)
+    }
+}
+
+// The first run times of a task.
+pub fn put_run(d: &mut [u8], from: usize, count: usize, run: &[u32; Job::MAX_NODES]) -> usize
+    requires { (count ≤ max_nodes) × (from + 4 * count ≤ length d.old) }
+    ensures { Rows (λ i. get_or run.now i 0 ∷ []) 4 d.old from count d.new result }
+{
+    put_rows(d, from, (), &run[..count])
+}
+
+// A count, or the length of the array that it counts.
+fn clip(count: u32, most: usize) -> usize
+    ensures { result ≡ min count most }
+{
+    (count as usize).min(most)
 }
 
 // A job's numbers, from the buffer's front.
@@ -169,41 +172,14 @@ pub fn put_job(d: &mut [u8], job: Job) -> usize
     let n = clip(job.task_count, Job::MAX_TASKS);
     let m = clip(job.link_count, Job::MAX_LINKS);
     let version = job.version as usize;
-    let nodes = job.nodes;
-    let tasks = job.tasks;
-    let links = job.links;
+    let form = TaskForm { version, nodes: p };
     let mut at = put(d, 0, job.version);
     at = put(d, at, job.node_count);
-    at = put_nodes(d, at, version, p, nodes);
+    at = put_rows(d, at, version, &job.nodes[..p]);
     at = put(d, at, job.task_count);
-    at = put_tasks(d, at, version, p, n, tasks);
+    at = put_rows(d, at, form, &job.tasks[..n]);
     at = put(d, at, job.link_count);
-    put_links(d, at, m, links)
-}
-
-fn put_place(d: &mut [u8], at: usize, place: Place) -> usize
-    requires { at + 16 ≤ length d.old }
-    ensures { Puts d.old at (place_numbers place) d.new result }
-{
-    let start = put(d, at, place.primary_node);
-    let backup = put(d, start, place.primary_start);
-    let last = put(d, backup, place.backup_node);
-    put(d, last, place.backup_start)
-}
-
-// The first places.
-fn put_places(d: &mut [u8], from: usize, count: usize, places: [Place; Job::MAX_TASKS]) -> usize
-    requires { (count ≤ max_tasks) × (from + 16 * count ≤ length d.old) }
-    ensures { Rows (λ j. place_numbers (get_or places j no_place)) 16 d.old from count d.new result }
-{
-    let mut at = from;
-    let mut i: usize = 0;
-    while i < count {
-        let place = places[i];
-        at = put_place(d, at, place);
-        i += 1;
-    }
-    at
+    put_rows(d, at, (), &job.links[..m])
 }
 
 // A plan's numbers, from the buffer's front.
@@ -212,10 +188,9 @@ pub fn put_plan(d: &mut [u8], plan: Plan) -> usize
     ensures { (result ≤ max_plan_length) × Puts d.old 0 (plan_numbers plan) d.new result }
 {
     let n = clip(plan.task_count, Job::MAX_TASKS);
-    let places = plan.places;
     let mut at = put(d, 0, plan.version);
     at = put(d, at, plan.task_count);
-    put_places(d, at, n, places)
+    put_rows(d, at, (), &plan.places[..n])
 }
 
 // A writer's last step: refused for want of room, else the file stands at the buffer's front.
@@ -227,11 +202,7 @@ pub fn send(file: &[u8], out: &mut [u8]) -> Answer
     if out.len() < n {
         return Answer::Refused(Refusal::ShortBuffer(n));
     }
-    let mut sent: usize = 0;
-    while sent < n {
-        out[sent] = file[sent];
-        sent += 1;
-    }
+    out[..n].copy_from_slice(file);
     Answer::Done
 }
 

@@ -10,5 +10,5 @@ put-requires c = rw c.if-has.true at c.requires
 pub returns-then-has : goal.returns-then-has
 returns-then-has c = puts_has _ c.if-has.true c.put.ensures
 
-pub returns : goal.returns
-returns c = puts_lacks _ _ _ _ c.if-has.false
+pub returns-else-has : goal.returns-else-has
+returns-else-has c = puts_lacks _ _ _ _ c.if-has.false

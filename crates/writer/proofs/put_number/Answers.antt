@@ -1,18 +1,8 @@
 -- `writer::put_number` meets its contract.
-use lib.ListN.{length-set}
+use mathlib.Core.Path.{◌∙◌}
 use native.Mathlib.Omega.{arith}
-use borrow.Author.Rules.{rules}
-use Rattle.writer.proofs.PutLaws.{set_splice}
+use Rattle.writer.proofs.PutLaws.{put_part}
 use Rattle.writer.proofs.put_number.Goals as goal
 
-pub bounds-d-at-2 : goal.bounds-d-at-2
-bounds-d-at-2 c = simp length-set (omega arith)
-
-pub bounds-d-at-3 : goal.bounds-d-at-3
-bounds-d-at-3 c = simp length-set (omega arith)
-
-pub bounds-d-at-4 : goal.bounds-d-at-4
-bounds-d-at-4 c = simp length-set (omega arith)
-
 pub returns : goal.returns
-returns c = set_splice _ _ _ _ _ _ (search rules)
+returns c = put_part _ _ _ _ _ (c.copy_from_slice.ensures.after ∙ c.to_le_bytes.ensures) (omega arith)
