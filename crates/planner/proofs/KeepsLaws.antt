@@ -40,12 +40,10 @@ use Rattle.copies.proofs.LayoutLaws.{laid_filled, laid_rising}
 use Rattle.copies.proofs.ClashLaws.{free_timeline, free_primary, free_backup}
 use Rattle.planner.specs.declared.inputs.Ready.{Ready}
 use Rattle.planner.specs.declared.search.Search.{Search}
-use Rattle.planner.specs.declared.slot.Slot.{Slot}
-use Rattle.planner.specs.declared.slot.Slot.TheVariants.{At, Nothing}
+use Rattle.std.specs.Prelude.{Option as Maybe, Some, None, Ok, Err}
 use Rattle.planner.specs.declared.task.Want.{Want}
-use Rattle.planner.specs.declared.task.Placing.TheVariants.{At as Placed, Nowhere}
 use Rattle.planner.specs.Senders.{latest_input, Sending}
-use Rattle.planner.specs.Search.{slot_copy, try_at, best_of, free_from, node_ok, fits, primary_search, backup_search, Searched}
+use Rattle.planner.specs.Search.{found_copy, try_at, best_of, free_from, node_ok, fits, primary_search, backup_search, Searched}
 use Rattle.planner.specs.Inputs.{ready_on, fed_by, Given}
 use Rattle.planner.specs.Faults.{Faulted}
 use Rattle.planner.specs.Tasks.{primary_from, Wanted, attempted}
@@ -170,12 +168,12 @@ module _ (next from delay : List ℕ) (cs : Copies) (leave order count peers : L
       }
 
   -- what it gave
-  abbrev Gave : Search → Slot → Type 0
-  Gave s a = slot_copy a ≡ best_of s.task.run (suc s.task.deadline) (fits times order count s) s.nodes
+  abbrev Gave : Search → Maybe Copy → Type 0
+  Gave s a = found_copy a ≡ best_of s.task.run (suc s.task.deadline) (fits times order count s) s.nodes
 
   gave : (s t : Search) → s ≡ t → t.task ≡ want.task → t.nodes ≡ want.count → (keeps : Copy → Bool)
       → ((c : Copy) → c.node < nodes job → c.start < c.finish → fits times order count t c ≡ keeps c)
-      → (a : Slot) → Gave s a → slot_copy a ≡ earliest job j keeps
+      → (a : Maybe Copy) → Gave s a → found_copy a ≡ earliest job j keeps
   gave s t e u v keeps h a g =
       subst (λ s. Gave s a) e g ∙ best_earliest job j _ _ (u ∙ w.task_is) (v ∙ w.count_is) (fits times order count t) keeps h
 
@@ -230,17 +228,17 @@ module _ (next from delay : List ℕ) (cs : Copies) (leave order count peers : L
         (free_all every_group c p ∙ free_primary job cs w.rows w.beside.held c q)
         ∙ five _ _ (rule_ready job j c) _ _ _ (leb_max _ soonest c.start ∙ ap₂ (λ d u. d and u) (d_is c) (soonest_is c))
 
-    module _ (a : Slot) (is_a : Gave s a) where
-      the_primary : slot_copy a ≡ earliest job j may
+    module _ (a : Maybe Copy) (is_a : Gave s a) where
+      the_primary : found_copy a ≡ earliest job j may
       the_primary = gave s _ is_s refl refl may primary_fits a is_a
 
-      pub no_primary : a ≡ Nothing → attempted (Nowhere (NoPrimary j)) ≡ place_task job (primary_from want.least want.shut) w.rows (row_of cs) j
+      pub no_primary : a ≡ None → attempted (Err (NoPrimary j)) ≡ place_task job (primary_from want.least want.shut) w.rows (row_of cs) j
       unfolding attempted place_task ◌>>=◌ ◌or_refuse◌
-      no_primary e = rw (sym the_primary ∙ ap slot_copy e)
+      no_primary e = rw (sym the_primary ∙ ap found_copy e)
 
-      module _ (p : Copy) (at_p : a ≡ At p) where
+      module _ (p : Copy) (at_p : a ≡ Some p) where
         some_primary : earliest job j may ≡ some p
-        some_primary = sym the_primary ∙ ap slot_copy at_p
+        some_primary = sym the_primary ∙ ap found_copy at_p
 
         p_found : Found job p
         p_found = found may p some_primary
@@ -321,16 +319,16 @@ module _ (next from delay : List ℕ) (cs : Copies) (leave order count peers : L
                 ∙ shuffle (rule_a job (the_row b)) (rule_b job (the_row b)) _ (rule_f job (the_row b)) _ _ (a_from_f b)
                 (leb_max _ _ b.start ∙ ap₂ (λ x y. x and y) (e_is b) (b_is b))
 
-            module _ (b : Slot) (is_b : Gave t b) where
-              the_backup : slot_copy b ≡ earliest job j (backup_keeps_beside job w.rows (row_of cs) j p)
+            module _ (b : Maybe Copy) (is_b : Gave t b) where
+              the_backup : found_copy b ≡ earliest job j (backup_keeps_beside job w.rows (row_of cs) j p)
               the_backup = gave t _ is_t refl refl _ backup_fits b is_b
 
-              pub no_backup : b ≡ Nothing
-                  → attempted (Nowhere (NoBackup j)) ≡ place_task job (primary_from want.least want.shut) w.rows (row_of cs) j
+              pub no_backup : b ≡ None
+                  → attempted (Err (NoBackup j)) ≡ place_task job (primary_from want.least want.shut) w.rows (row_of cs) j
               unfolding attempted place_task ◌>>=◌ ◌or_refuse◌
-              no_backup e = rw (some_primary, sym the_backup ∙ ap slot_copy e)
+              no_backup e = rw (some_primary, sym the_backup ∙ ap found_copy e)
 
-              pub both : (q : Copy) → b ≡ At q → attempted (Placed (record { primary = p; backup = q; set = set }))
+              pub both : (q : Copy) → b ≡ Some q → attempted (Ok (record { primary = p; backup = q; set = set }))
                   ≡ place_task job (primary_from want.least want.shut) w.rows (row_of cs) j
               unfolding attempted place_task row ◌>>=◌ ◌or_refuse◌
-              both q e = rw (some_primary, sym the_backup ∙ ap slot_copy e, faults)
+              both q e = rw (some_primary, sym the_backup ∙ ap found_copy e, faults)

@@ -5,6 +5,7 @@ use mathlib.Core.Path.{◌≡◌, sym, ◌∙◌, ap, subst}
 use lib.ListN.{get_or, replicate}
 use native.Mathlib.Numerals.{add-one}
 use native.Mathlib.Omega.{arith}
+use Rattle.std.specs.Prelude.{Result, Ok, Err}
 use Rattle.reader.specs.declared.job.Job.{Job}
 use Rattle.reader.specs.declared.plan.Plan.{Plan}
 use Rattle.reader.specs.declared.refusal.Refusal.{Refusal}
@@ -23,11 +24,8 @@ use Rattle.copies.specs.Sets.{has}
 use Rattle.copies.specs.Table.{copy_count, row_of, empty_copies}
 use Rattle.copies.specs.Layout.{spots, Laid}
 use Rattle.copies.proofs.TableLaws.{empty_rows}
-use Rattle.planner.specs.declared.Planned.{Planned}
 use Rattle.planner.specs.declared.task.Want.{Want}
 use Rattle.planner.specs.declared.task.Pair.{Pair}
-use Rattle.planner.specs.declared.task.Placing.{Placing}
-use Rattle.planner.specs.declared.task.Placing.TheVariants.{At, Nowhere}
 use Rattle.planner.specs.Senders.{Net, Sent}
 use Rattle.planner.specs.Faults.{Peers}
 use Rattle.planner.specs.Tasks.{want_of, pair_row, attempted, Bookable, Booked, Departing, departed, Next}
@@ -47,12 +45,12 @@ stays job m x h (suc n) p =
 module _ (job : Job) (net : Net) (j : ℕ) (cs : Copies) (leave order count : List ℕ) (so_far : Planning job net j cs leave order count)
     (task_of_lem : j < tasks job) (peers : List ℕ) (by_group : Peers job.nodes (nodes job) peers) (want : Want)
     (is_want : want ≡ want_of j (task job j) job.nodes (nodes job) (get_or net.last j 0))
-    (a : Placing) (is_a : Told net.next net.from net.delay cs leave order count peers want a) where
+    (a : Result Pair Refusal) (is_a : Told net.next net.from net.delay cs leave order count peers want a) where
   answer : attempted a ≡ place_task job (anywhere j) j (row_of cs) j
   answer = told job _ _ _ _ j cs leave order count so_far.sound so_far.sent so_far.beside task_of_lem peers by_group want is_want a is_a
 
   -- it is placed as x
-  module _ (x : Pair) (at_x : a ≡ At x) where
+  module _ (x : Pair) (at_x : a ≡ Ok x) where
     as_x : place_task job (anywhere j) j (row_of cs) j ≡ placed (pair_row x)
     unfolding attempted
     as_x = sym answer ∙ ap attempted at_x
@@ -99,11 +97,11 @@ module _ (job : Job) (net : Net) (j : ℕ) (cs : Copies) (leave order count : Li
               leave' order' count' gone laid;
         }
 
-  pub plan_stop : (x : Refusal) → a ≡ Nowhere x → (r : Planned) → r ≡ planned (refused x) → r ≡ planned (planner job)
-  unfolding attempted planner planner_with place_tasks ◌>>=◌
-  plan_stop x at_x r e =
+  pub plan_stop : (x : Refusal) → a ≡ Err x → Err x ≡ planned (planner job)
+  unfolding attempted planner planner_with place_tasks planned ◌>>=◌
+  plan_stop x at_x =
       let w : place_task job (anywhere j) j (row_of cs) j ≡ refused x = sym answer ∙ ap attempted at_x in
-      e ∙ rw (stays job (suc j) x (rw (so_far.is, w)) (tasks job) task_of_lem)
+      rw (stays job (suc j) x (rw (so_far.is, w)) (tasks job) task_of_lem)
 
 -- the loop over tasks
 pub plan_start : (job : Job) (net : Net) (leave order count : List ℕ) → Sound job
@@ -122,8 +120,8 @@ plan_start job net leave order count sound sent o b l =
 
 module _ (job : Job) (net : Net) (j : ℕ) (cs : Copies) (leave order count : List ℕ) (so_far : Planning job net j cs leave order count) where
   pub plan_done : (plan : Plan) → j ≡ tasks job → plan ≡ listed (tasks job) (places_to cs.node cs.start (tasks job))
-      → (r : Planned) → r ≡ planned (placed plan) → r ≡ planned (planner job)
-  unfolding planner planner_with plan_of places_to place_of row_of ◌>>=◌
-  plan_done plan e l r h =
+      → Ok plan ≡ planned (planner job)
+  unfolding planned planner planner_with plan_of places_to place_of row_of ◌>>=◌
+  plan_done plan e l =
       let d : place_tasks job anywhere (tasks job) ≡ placed (row_of cs) = subst (λ k. place_tasks job anywhere k ≡ placed (row_of cs)) e so_far.is in
-      h ∙ ap (λ plan. planned (placed plan)) l ∙ rw d
+      ap Ok l ∙ rw d

@@ -5,7 +5,9 @@ use mathlib.Core.Path.{◌≡◌, refl, sym, subst, fun_ext}
 use lib.ListN.{get_or}
 use borrow.Author.Tests.{le-leb}
 use native.Mathlib.Omega.{arith}
+use Rattle.std.specs.Prelude.{Result}
 use Rattle.reader.specs.declared.job.Job.{Job}
+use Rattle.reader.specs.declared.refusal.Refusal.{Refusal}
 use Rattle.reader.specs.Tests.{◌and◌}
 use Rattle.reader.specs.Entries.{nodes, tasks, links, task}
 use Rattle.reader.specs.Sound.{Sound}
@@ -14,7 +16,7 @@ use Rattle.copies.specs.declared.table.Copies.{Copies}
 use Rattle.copies.specs.Table.{row_of}
 use Rattle.copies.proofs.SetLaws.{has_none}
 use Rattle.planner.specs.declared.task.Want.{Want}
-use Rattle.planner.specs.declared.task.Placing.{Placing}
+use Rattle.planner.specs.declared.task.Pair.{Pair}
 use Rattle.planner.specs.Senders.{Sent}
 use Rattle.planner.specs.Faults.{Peers}
 use Rattle.planner.specs.Tasks.{primary_from, Beside, want_of, Wanted, attempted}
@@ -26,7 +28,7 @@ unfolding primary_from ◌and◌
 from_anywhere j = fun_ext λ p. rw (has_none p.node) (le-leb 0 p.start (omega arith))
 
 -- what `place_task` says of its answer
-abbrev pub Told : List ℕ → List ℕ → List ℕ → Copies → List ℕ → List ℕ → List ℕ → List ℕ → Want → Placing → Type 0
+abbrev pub Told : List ℕ → List ℕ → List ℕ → Copies → List ℕ → List ℕ → List ℕ → List ℕ → Want → Result Pair Refusal → Type 0
 Told next from delay cs leave order count peers want a =
     (w : Wanted next from delay cs leave order count peers want)
     → attempted a ≡ place_task w.job (primary_from want.least want.shut) w.rows (row_of cs) want.number
@@ -56,7 +58,7 @@ module _ (job : Job) (into next from delay : List ℕ) (j : ℕ) (cs : Copies) (
   pub asked : Wanted next from delay cs leave order count peers want
   asked = subst (Wanted next from delay cs leave order count peers) (sym is_want) wanted
 
-  pub told : (a : Placing) → Told next from delay cs leave order count peers want a → attempted a ≡ place_task job (anywhere j) j (row_of cs) j
+  pub told : (a : Result Pair Refusal) → Told next from delay cs leave order count peers want a → attempted a ≡ place_task job (anywhere j) j (row_of cs) j
   unfolding wanted
   told a f =
       subst (λ may. attempted a ≡ place_task job may j (row_of cs) j) (from_anywhere j)

@@ -1,5 +1,6 @@
 -- The search for a copy's place: on one node, and on all.
 use Rattle.std.specs.Prelude.{ℕ, ◌+◌, ◌-◌, ◌≤◌, ◌<◌, max, Bool, true, not, cond, ◌≡◌, List, [], ◌∷◌, leb, ltb, get_or}
+use Rattle.std.specs.Prelude.{Option as Maybe, Some, None}
 use Rattle.std.proofs.Math.Option.{Option, none, some}
 use Rattle.reader.specs.declared.job.Task.{Task}
 use Rattle.reader.specs.Tests.{◌and◌}
@@ -15,14 +16,13 @@ use Rattle.copies.specs.Clash.{free_of}
 use Rattle.planner.specs.declared.inputs.Ready.{Ready}
 use Rattle.planner.specs.declared.search.Ask.{Ask}
 use Rattle.planner.specs.declared.search.Search.{Search}
-use Rattle.planner.specs.declared.slot.Slot.{Slot}
-use Rattle.planner.specs.declared.slot.Slot.TheVariants.{At, Nothing}
 use Rattle.planner.specs.Senders.{latest_input}
 use Rattle.planner.specs.Inputs.{ready_on}
 
-abbrev pub slot_copy : Slot → Option Copy
-slot_copy (At c) = some c
-slot_copy Nothing = none
+-- what a search hands back
+abbrev pub found_copy : Maybe Copy → Option Copy
+found_copy (Some c) = some c
+found_copy None = none
 
 -- the copy on node n that starts at s and runs so long
 abbrev pub spot : ℕ → ℕ → ℕ → Copy

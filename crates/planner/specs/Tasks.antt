@@ -1,15 +1,15 @@
 -- Task by task: what is wanted, where it is placed and how it is stored; the table after the first tasks, and the plan of all.
-use Rattle.std.specs.Prelude.{ℕ, ◌+◌, ◌*◌, ◌≤◌, ◌<◌, Bool, not, List, ◌≡◌, leb, get_or, set, replicate}
+use Rattle.std.specs.Prelude.{ℕ, ◌+◌, ◌*◌, ◌≤◌, ◌<◌, Bool, not, List, ◌≡◌, leb, get_or, set, replicate, Result, Ok, Err}
 use Rattle.reader.specs.declared.job.Job.{Job}
 use Rattle.reader.specs.declared.job.Node.{Node}
 use Rattle.reader.specs.declared.job.Task.{Task}
 use Rattle.reader.specs.declared.plan.Place.{Place}
 use Rattle.reader.specs.declared.plan.Plan.{Plan}
-use Rattle.reader.specs.declared.refusal.Answer.TheVariants.{Done, Refused}
+use Rattle.reader.specs.declared.refusal.Refusal.{Refusal}
 use Rattle.reader.specs.Tests.{◌and◌}
 use Rattle.reader.specs.First.{fill}
 use Rattle.reader.specs.Limits.{max_nodes, max_tasks, max_start, max_time}
-use Rattle.reader.specs.Entries.{nodes, tasks, links, task, link, no_place, empty_plan}
+use Rattle.reader.specs.Entries.{nodes, tasks, links, task, link, no_place}
 use Rattle.reader.specs.Sound.{Sound}
 use Rattle.rules.specs.declared.Copy.{Copy}
 use Rattle.rules.specs.Rules.{Row}
@@ -20,11 +20,8 @@ use Rattle.copies.specs.Arrival.{leave_by, Leaving}
 use Rattle.copies.specs.Sets.{has, every_group}
 use Rattle.copies.specs.Table.{copy_count, node_at, entry, set_at, row_of, Whole, Held}
 use Rattle.copies.specs.Layout.{Laid}
-use Rattle.planner.specs.declared.Planned.{Planned}
 use Rattle.planner.specs.declared.task.Want.{Want}
 use Rattle.planner.specs.declared.task.Pair.{Pair}
-use Rattle.planner.specs.declared.task.Placing.{Placing}
-use Rattle.planner.specs.declared.task.Placing.TheVariants.{At, Nowhere}
 use Rattle.planner.specs.Senders.{Net, Sent, Into, latest_input}
 use Rattle.planner.specs.Faults.{Peers}
 
@@ -66,9 +63,9 @@ pub record Wanted (next from delay : List ℕ) (cs : Copies) (leave order count 
 abbrev pub pair_row : Pair → Row
 pair_row x = record { primary = x.primary; backup = x.backup; faults = has x.set }
 
-unfoldable pub attempted : Placing → Attempt Row
-attempted (At x) = placed (pair_row x)
-attempted (Nowhere r) = refused r
+unfoldable pub attempted : Result Pair Refusal → Attempt Row
+attempted (Ok x) = placed (pair_row x)
+attempted (Err r) = refused r
 
 -- the pair can be stored as task j, and is on nodes of a rack
 abbrev pub Bookable : Copies → ℕ → Pair → Type 0
@@ -129,7 +126,7 @@ places_to node start n = fill n (λ j. place_at node start j) (replicate max_tas
 abbrev pub listed : ℕ → List Place → Plan
 listed n places = record { version = 1; task_count = n; places = places }
 
--- the planner's answer, with its plan; on a refusal the plan is empty
-unfoldable pub planned : Attempt Plan → Planned
-planned (placed plan) = record { answer = Done; plan = plan }
-planned (refused r) = record { answer = Refused r; plan = empty_plan }
+-- the planner's answer: its plan, or the refusal
+unfoldable pub planned : Attempt Plan → Result Plan Refusal
+planned (placed plan) = Ok plan
+planned (refused r) = Err r

@@ -32,9 +32,10 @@ pub fn fault_set<'l, 'c>(
 {
     let mut weak: u64 = 0;
     let mut left = last;
+    // no index: the chain says which link is next
     while left != 0 {
         let x = sender_at(next, from, delay, node, finish, leave, sets, left - 1);
-        weak = weak | late_bit(in_time(x.backup, primary), x.task);
+        weak |= late_bit(in_time(x.backup, primary), x.task);
         left = x.next;
     }
     gather_task(sets, bit_of(group), weak)
@@ -45,11 +46,9 @@ pub fn by_group(nodes: [Node; Job::MAX_NODES], n: usize, peers: &mut [u32; Copie
     requires { Groups nodes n × Peers nodes 0 peers.old }
     ensures { Peers nodes n peers.new }
 {
-    let mut i: usize = 0;
-    while i < n {
+    for i in 0..n {
         let node = nodes[i];
         let k = 2 * (node.group as usize) + 1;
-        peers[k] = peers[k] | bit_of(i as u32);
-        i += 1;
+        peers[k] |= bit_of(i as u32);
     }
 }

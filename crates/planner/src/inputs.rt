@@ -4,7 +4,7 @@ ghost use Rattle.planner.specs.Senders.{results, Sending};
 ghost use Rattle.planner.specs.Inputs.{ready_on, farther_of, Reached, Owned, Given};
 
 use crate::senders::sender_at;
-use copies::arrival::{arrival, later, pick};
+use copies::arrival::{arrival, pick};
 use copies::table::Copies;
 use reader::job::Job;
 
@@ -61,6 +61,7 @@ pub fn farthest<'l, 'c>(
 {
     let mut reach = Reach { at: 0, from: 0 };
     let mut left = last;
+    // no index: the chain says which link is next
     while left != 0 {
         let x = sender_at(next, from, delay, node, finish, leave, sets, left - 1);
         let p = x.primary;
@@ -92,11 +93,12 @@ pub fn own_time<'l, 'c>(
 {
     let mut own: u32 = 0;
     let mut left = last;
+    // no index: the chain says which link is next
     while left != 0 {
         let x = sender_at(next, from, delay, node, finish, leave, sets, left - 1);
-        let half = later(own, arrival(x.primary, to));
+        let half = own.max(arrival(x.primary, to));
         let late = arrival(x.backup, to);
-        own = later(half, pick(x.set & set != 0, late, 0));
+        own = half.max(pick(x.set & set != 0, late, 0));
         left = x.next;
     }
     own

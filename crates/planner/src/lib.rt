@@ -3,18 +3,17 @@
 
 ghost use Rattle.std.specs.Prelude.{◌≡◌};
 ghost use Rattle.reader.specs.Sound.{Sound};
-ghost use Rattle.rules.specs.Attempts.{refused, placed};
 ghost use Rattle.rules.specs.Planner.{planner};
 ghost use Rattle.planner.specs.Tasks.{planned};
 
 use crate::faults::by_group;
 use crate::places::plan_of;
 use crate::senders::by_receiver;
-use crate::task::{Placing, Want, book, lay_both, place_task, send_off};
+use crate::task::{Want, book, lay_both, place_task, send_off};
 use copies::table::Copies;
 use reader::job::Job;
 use reader::plan::Plan;
-use reader::refusal::{Answer, Refusal};
+use reader::refusal::Refusal;
 
 pub mod faults;
 pub mod inputs;
@@ -24,35 +23,10 @@ pub mod senders;
 pub mod slot;
 pub mod task;
 
-// Where it is refused the plan is empty.
-#[derive(Clone, Copy)]
-pub struct Planned {
-    pub answer: Answer,
-    pub plan: Plan,
-}
-
-fn unplanned(refusal: Refusal) -> Planned
-    ensures { result ≡ planned (refused refusal) }
-{
-    Planned {
-        answer: Answer::Refused(refusal),
-        plan: Plan::empty(),
-    }
-}
-
-fn all_planned(plan: Plan) -> Planned
-    ensures { result ≡ planned (placed plan) }
-{
-    Planned {
-        answer: Answer::Done,
-        plan,
-    }
-}
-
 // The whole plan: tasks go by number. The columns have short names, so that each call stands on one line: a link comes `by` a task with a `lag`, and the
 // next to its receiver is `nx`; a copy is `on` a node, to `go` at a start `to` a finish, its result `off` the node later; the copies of each node stand
 // in line by time in `ln`, `no` of them; the nodes of a group are its `kin`.
-pub fn plan_job(job: Job) -> Planned
+pub fn plan_job(job: Job) -> Result<Plan, Refusal>
     requires { Sound job }
     ensures { result ≡ planned (planner job) }
 {
@@ -73,19 +47,12 @@ pub fn plan_job(job: Job) -> Planned
     let mut no = [0usize; Job::MAX_NODES];
     let mut kin = [0u32; Copies::COUNT];
     by_group(job.nodes, count, &mut kin);
-    let mut j: usize = 0;
-    while j < n {
+    for j in 0..n {
         let w = Want::of(j, job.tasks[j], job.nodes, count, into[j] as usize);
-        let x = place_task(&nx, &by, &lag, &on, &go, &to, &off, &set, &ln, &no, &kin, w);
-        match x {
-            Placing::Nowhere(r) => return unplanned(r),
-            Placing::At(pair) => {
-                book(&mut on, &mut go, &mut to, &mut set, j, pair);
-                send_off(&mut off, job.nodes, j, pair);
-                lay_both(&on, &go, &mut ln, &mut no, j);
-            }
-        }
-        j += 1;
+        let pair = place_task(&nx, &by, &lag, &on, &go, &to, &off, &set, &ln, &no, &kin, w)?;
+        book(&mut on, &mut go, &mut to, &mut set, j, pair);
+        send_off(&mut off, job.nodes, j, pair);
+        lay_both(&on, &go, &mut ln, &mut no, j);
     }
-    all_planned(plan_of(&on, &go, n))
+    Ok(plan_of(&on, &go, n))
 }

@@ -6,7 +6,6 @@ ghost use Rattle.planner.specs.Tasks.{listed, places_to};
 
 use crate::inputs::Ready;
 use crate::search::Search;
-use copies::arrival::later;
 use copies::sets::ALL;
 use copies::table::Copies;
 use reader::job::Task;
@@ -20,7 +19,7 @@ pub fn primary_search(task: Task, nodes: usize, ready: Ready, least: u32, shut: 
         task,
         nodes,
         ready,
-        least: later(least, task.ready),
+        least: least.max(task.ready),
         set: ALL,
         barred: shut,
     }
@@ -57,8 +56,7 @@ pub fn plan_of<'c>(
     ensures { result ≡ listed n (places_to node.now start.now n) }
 {
     let mut plan = Plan::empty();
-    let mut j: usize = 0;
-    while j < n {
+    for j in 0..n {
         let k = 2 * j;
         plan.places[j] = Place {
             primary_node: node[k],
@@ -66,7 +64,6 @@ pub fn plan_of<'c>(
             backup_node: node[k + 1],
             backup_start: start[k + 1],
         };
-        j += 1;
     }
     plan.task_count = n as u32;
     plan

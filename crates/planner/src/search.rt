@@ -3,11 +3,11 @@ ghost use Rattle.std.specs.Prelude.{[], ◌≡◌, suc, ◌≤◌};
 ghost use Rattle.copies.specs.Table.{table};
 ghost use Rattle.copies.specs.Layout.{base_of, spots_from};
 ghost use Rattle.planner.specs.Senders.{latest_input};
-ghost use Rattle.planner.specs.Search.{slot_copy, sooner_of, sweep, fits, best_of, Asked, Searched};
+ghost use Rattle.planner.specs.Search.{found_copy, sooner_of, sweep, fits, best_of, Asked, Searched};
 
 use crate::inputs::{Ready, ready_on};
-use crate::slot::{Slot, may_run, nowhere, slot_by, sooner};
-use copies::arrival::{later, pick};
+use crate::slot::{may_run, nowhere, slot_by, sooner};
+use copies::arrival::pick;
 use copies::layout::entry_at;
 use copies::table::Copies;
 use reader::job::{Job, Task};
@@ -49,17 +49,15 @@ pub fn first_free<'c>(
         (spots_from order.now (base_of ask.node) ask.count) from }
 {
     let run = ask.run;
-    let mut p = (ask.node as usize) * Copies::COUNT;
-    let to = p + ask.count;
+    let base = (ask.node as usize) * Copies::COUNT;
     let mut s = from;
-    while p < to {
+    for p in base..base + ask.count {
         let k = entry_at(order, p);
         let at = start[k];
         if s + run <= at {
             return s;
         }
-        s = later(s, pick(sets[k] & ask.set != 0, finish[k], 0));
-        p += 1;
+        s = s.max(pick(sets[k] & ask.set != 0, finish[k], 0));
     }
     s
 }
@@ -94,9 +92,9 @@ pub fn best_slot<'c>(
     order: &'c [u8; Copies::SPOTS],
     count: &'c [usize; Job::MAX_NODES],
     search: Search,
-) -> Slot
+) -> Option<Copy>
     requires { Searched (table [] start.now finish.now sets.now) order.now count.now search }
-    ensures { slot_copy result ≡ best_of search.task.run (suc search.task.deadline)
+    ensures { found_copy result ≡ best_of search.task.run (suc search.task.deadline)
         (fits (table [] start.now finish.now sets.now) order.now count.now search)
         search.nodes }
 {
@@ -104,8 +102,7 @@ pub fn best_slot<'c>(
     let ready = search.ready;
     let nodes = search.nodes;
     let mut best = nowhere(task.deadline);
-    let mut n: usize = 0;
-    while n < nodes {
+    for n in 0..nodes {
         let run = task.run[n];
         if may_run(run, search.barred, n as u32) {
             let ask = Ask {
@@ -114,10 +111,9 @@ pub fn best_slot<'c>(
                 set: search.set,
                 run,
             };
-            let from = later(ready_on(ready, n as u32), search.least);
+            let from = ready_on(ready, n as u32).max(search.least);
             best = better(start, finish, sets, order, ask, from, best);
         }
-        n += 1;
     }
     slot_by(best, task.deadline)
 }

@@ -4,16 +4,10 @@ ghost use Rattle.reader.specs.Tests.{◌and◌};
 ghost use Rattle.reader.specs.Limits.{max_nodes, max_time};
 ghost use Rattle.copies.specs.Sets.{has};
 ghost use Rattle.planner.specs.Senders.{latest_input};
-ghost use Rattle.planner.specs.Search.{slot_copy, no_place, sooner_of, place_by};
+ghost use Rattle.planner.specs.Search.{found_copy, no_place, sooner_of, place_by};
 
 use copies::sets::holds;
 use rules::Copy;
-
-#[derive(Clone, Copy)]
-pub enum Slot {
-    At(Copy),
-    Nothing,
-}
 
 // What a copy that is found must beat, before there is one: it finishes behind the deadline.
 pub fn nowhere(deadline: u32) -> Copy
@@ -54,11 +48,11 @@ pub fn sooner(best: Copy, n: u32, start: u32, run: u32) -> Copy
 }
 
 // The best, if it finishes by the deadline.
-pub fn slot_by(best: Copy, deadline: u32) -> Slot
-    ensures { slot_copy result ≡ place_by best deadline }
+pub fn slot_by(best: Copy, deadline: u32) -> Option<Copy>
+    ensures { found_copy result ≡ place_by best deadline }
 {
     if best.finish <= deadline {
-        return Slot::At(best);
+        return Some(best);
     }
-    Slot::Nothing
+    None
 }

@@ -1,6 +1,7 @@
 -- `planner::plan_job` meets its contract.
 use mathlib.Core.Path.{refl}
 use native.Mathlib.Omega.{arith}
+use Rattle.std.proofs.lemmas.Result.{err_from_is_err_and}
 use Rattle.reader.specs.Limits.{max_tasks}
 use Rattle.copies.proofs.ListMore.{replicated}
 use Rattle.planner.proofs.SenderLaws.{sendable, sent_start}
@@ -24,46 +25,41 @@ overflow_cast-into c =
     let so_far = c.loop-j.invariant in
     omega (arith, into_few _ _ _ _ _ so_far.sent _ so_far.sound c.loop-j-test.true)
 
-pub place_task-x-requires : goal.place_task-x-requires
-place_task-x-requires c =
+pub place_task-requires : goal.place_task-requires
+place_task-requires c =
     let so_far = c.loop-j.invariant in
     asked _ _ _ _ _ _ _ _ _ _ so_far.sound so_far.sent so_far.beside c.loop-j-test.true _ c.by_group.ensures _
     c.of-w.ensures
 
-pub returns-in-Nowhere : goal.returns-in-Nowhere
-returns-in-Nowhere c =
-    plan_stop _ _ _ _ _ _ _ c.loop-j.invariant c.loop-j-test.true _ c.by_group.ensures _ c.of-w.ensures _
-    c.place_task-x.ensures _ c.in-Nowhere.is _ c.unplanned.ensures
+pub returns-in_err-pair : goal.returns-in_err-pair
+returns-in_err-pair c =
+    let p = err_from_is_err_and c.from_residual.result c.from_residual.ensures.1 in
+    rw (p.1, p.2) (plan_stop _ _ _ _ _ _ _ c.loop-j.invariant c.loop-j-test.true _ c.by_group.ensures _ c.of-w.ensures _
+    c.place_task.ensures _ c.in_err-pair.was)
 
 pub book-requires : goal.book-requires
 book-requires c =
     bookable _ _ _ _ _ _ _ c.loop-j.invariant c.loop-j-test.true _ c.by_group.ensures _ c.of-w.ensures _
-    c.place_task-x.ensures _ c.in-At.is
+    c.place_task.ensures _ c.in_ok-pair.was
 
 pub send_off-requires : goal.send_off-requires
 send_off-requires c =
     departing _ _ _ _ _ _ _ c.loop-j.invariant c.loop-j-test.true _ c.by_group.ensures _ c.of-w.ensures _
-    c.place_task-x.ensures _ c.in-At.is
+    c.place_task.ensures _ c.in_ok-pair.was
 
 pub lay_both-requires : goal.lay_both-requires
 lay_both-requires c =
     lays_next _ _ _ _ _ _ _ c.loop-j.invariant c.loop-j-test.true _ c.by_group.ensures _ c.of-w.ensures _
-    c.place_task-x.ensures _ c.in-At.is _ c.book.ensures
-
-pub overflow_add-j : goal.overflow_add-j
-overflow_add-j c = omega (arith, c.loop-j-test.true, c.loop-j.invariant.sound.tasks_most)
-
-pub loop-j-smaller : goal.loop-j-smaller
-loop-j-smaller c = omega (arith, c.loop-j-test.true)
+    c.place_task.ensures _ c.in_ok-pair.was _ c.book.ensures
 
 pub loop-j-preserved : goal.loop-j-preserved
 loop-j-preserved c =
     plan_more _ _ _ _ _ _ _ c.loop-j.invariant c.loop-j-test.true _ c.by_group.ensures _ c.of-w.ensures _
-    c.place_task-x.ensures _ c.in-At.is _ c.book.ensures _ _ _ c.send_off.ensures
+    c.place_task.ensures _ c.in_ok-pair.was _ c.book.ensures _ _ _ c.send_off.ensures
     c.lay_both.ensures
 
 pub plan_of-requires : goal.plan_of-requires
 plan_of-requires c = c.loop-j.invariant.sound.tasks_most
 
 pub returns : goal.returns
-returns c = plan_done _ _ _ _ _ _ _ c.loop-j.invariant _ (omega arith) c.plan_of.ensures _ c.all_planned.ensures
+returns c = plan_done _ _ _ _ _ _ _ c.loop-j.invariant _ (omega arith) c.plan_of.ensures

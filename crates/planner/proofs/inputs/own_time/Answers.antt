@@ -19,8 +19,8 @@ pub loop-left-preserved : goal.loop-left-preserved
 loop-left-preserved c =
     owning_more _ _ _ _ _ _ _ _
     (walk_next _ _ _ _ _ _ c.loop-left.invariant.walk c.loop-left-test.true _ c.sender_at-x.ensures.1)
-    _ _ c.loop-left.invariant _ _ _ _ _ c.arrival.ensures c.later-half.ensures
-    c.arrival-late.ensures c.pick.ensures c.later-own.ensures
+    _ _ c.loop-left.invariant _ _ _ _ _ c.arrival.ensures c.max-half.ensures
+    c.arrival-late.ensures c.pick.ensures c.max-own.ensures
 
 pub returns : goal.returns
 returns c = owning_done _ _ _ _ _ _ _ _ _ (omega arith) c.loop-left.invariant

@@ -4,10 +4,10 @@ use Rattle.planner.proofs.ListLaws.{list_start, list_more, list_done}
 use Rattle.planner.proofs.places.plan_of.Goals as goal
 
 pub loop-j-init : goal.loop-j-init
-loop-j-init c = (omega arith, list_start _ _ _ c.empty-plan.ensures)
+loop-j-init c = list_start _ _ _ c.empty-plan.ensures
 
 pub loop-j-preserved : goal.loop-j-preserved
-loop-j-preserved c = (omega arith, list_more _ _ _ _ c.loop-j.invariant.1)
+loop-j-preserved c = list_more _ _ _ _ c.loop-j.invariant
 
 pub returns : goal.returns
-returns c = list_done _ _ _ _ _ (omega arith) c.loop-j.invariant.1
+returns c = list_done _ _ _ _ _ (omega arith) c.loop-j.invariant

@@ -23,14 +23,14 @@ bounds-count-n c = omega (arith, c.loop-n-test.true, c.requires.nodes_most)
 pub better-best-requires : goal.better-best-requires
 better-best-requires c =
     asked _ _ _ _ c.requires _ _ c.loop-n.invariant c.loop-n-test.true
-    (sym c.may_run.ensures ∙ c.if-may_run.true) _ (start_at_lem _ _ _ _ _ c.ready_on.ensures c.later-from.ensures)
+    (sym c.may_run.ensures ∙ c.if-may_run.true) _ (start_at_lem _ _ _ _ _ c.ready_on.ensures c.max-from.ensures)
 
 pub loop-n-preserved : goal.loop-n-preserved
 loop-n-preserved c =
     elim c.if-may_run.branch [
       | then-may_run w ↦
           best_next _ _ _ _ c.requires _ _ c.loop-n.invariant c.loop-n-test.true
-          (sym c.may_run.ensures ∙ w.if-may_run.true) _ (start_at_lem _ _ _ _ _ w.ready_on.ensures w.later-from.ensures) _
+          (sym c.may_run.ensures ∙ w.if-may_run.true) _ (start_at_lem _ _ _ _ _ w.ready_on.ensures w.max-from.ensures) _
           (w.best-is ∙ w.better-best.ensures)
       | else-may_run w ↦
           best_passed _ _ _ _ c.requires _ _ c.loop-n.invariant c.loop-n-test.true _ (sym c.may_run.ensures ∙ w.if-may_run.false) w.best-is

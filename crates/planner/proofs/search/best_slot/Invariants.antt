@@ -1,5 +1,4 @@
--- What the loop of `planner::search::best_slot` keeps, and what falls.
-use Prim.Native.Nat.{◌-◌}
+-- What the loop of `planner::search::best_slot` keeps.
 use mathlib.Core.List.{[]}
 use Rattle.copies.specs.Table.{table}
 use Rattle.planner.proofs.BestLaws.{Best}
@@ -7,6 +6,3 @@ use Rattle.planner.proofs.search.best_slot.Given as goal
 
 abbrev pub invariant-loop-n : goal.invariant-loop-n
 invariant-loop-n l = Best (table [] l.start l.finish l.sets) l.order l.count l.search l.n l.best
-
-abbrev pub decreases-loop-n : goal.decreases-loop-n
-decreases-loop-n l = l.nodes - l.n

@@ -3,11 +3,11 @@ use native.Mathlib.Omega.{arith}
 use Rattle.planner.proofs.LeapLaws.{sweep_start, sweep_stop, sweep_more, sweep_done, swept_all}
 use Rattle.planner.proofs.search.first_free.Goals as goal
 
-pub overflow_mul-p : goal.overflow_mul-p
-overflow_mul-p c = omega (arith, c.requires.node)
+pub overflow_mul-base : goal.overflow_mul-base
+overflow_mul-base c = omega (arith, c.requires.node)
 
-pub overflow_add-to : goal.overflow_add-to
-overflow_add-to c = omega (arith, c.requires.filled.below)
+pub overflow_add-p-end : goal.overflow_add-p-end
+overflow_add-p-end c = omega (arith, c.requires.filled.below)
 
 pub loop-p-init : goal.loop-p-init
 loop-p-init c = sweep_start _ _ _ _ _ _ _ c.requires.soon
@@ -30,16 +30,10 @@ returns-then-s-run c =
           c.entry_at-k.ensures (omega (arith, c.if-s-run.true)));
     }
 
-pub overflow_add-p : goal.overflow_add-p
-overflow_add-p c = omega (arith, c.loop-p-test.true, c.requires.filled.below)
-
-pub loop-p-smaller : goal.loop-p-smaller
-loop-p-smaller c = omega (arith, c.loop-p-test.true)
-
 pub loop-p-preserved : goal.loop-p-preserved
 loop-p-preserved c =
     sweep_more _ _ _ _ _ _ _ _ _ _ c.loop-p.invariant c.loop-p-test.true c.entry_at-k.ensures
-    c.if-s-run.false c.requires.ends _ _ c.pick.ensures c.later-s.ensures
+    c.if-s-run.false c.requires.ends _ _ c.pick.ensures c.max-s.ensures
 
 pub returns : goal.returns
 returns c =

@@ -1,5 +1,5 @@
--- What the loop of `planner::search::first_free` keeps, and what falls.
-use Prim.Native.Nat.{◌+◌, ◌*◌, ◌-◌}
+-- What the loop of `planner::search::first_free` keeps.
+use Prim.Native.Nat.{◌+◌, ◌*◌}
 use mathlib.Core.List.{[]}
 use Rattle.copies.specs.Table.{copy_count, table}
 use Rattle.planner.proofs.LeapLaws.{Sweeping}
@@ -8,6 +8,3 @@ use Rattle.planner.proofs.search.first_free.Given as goal
 abbrev pub invariant-loop-p : goal.invariant-loop-p
 invariant-loop-p l =
     Sweeping (table [] l.start l.finish l.sets) l.ask.set l.run l.order (l.ask.node * copy_count) (l.ask.node * copy_count + l.ask.count) l.from l.p l.s
-
-abbrev pub decreases-loop-p : goal.decreases-loop-p
-decreases-loop-p l = l.to - l.p

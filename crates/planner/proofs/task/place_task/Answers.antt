@@ -18,13 +18,13 @@ returns-in_default c =
 pub bounds-want-i : goal.bounds-want-i
 bounds-want-i c =
     primary_node _ _ _ _ _ _ _ _ _ c.requires _ c.gather-fed.ensures _ c.primary_search-first.ensures
-    c.best_slot-a.result c.best_slot-a.ensures _ c.in-At.is
+    c.best_slot-a.result c.best_slot-a.ensures _ c.in-Some.is
 
 pub fault_set-set-requires : goal.fault_set-set-requires
 fault_set-set-requires c = (
   want_sending _ _ _ _ _ _ _ _ _ c.requires,
   group_fits _ _ _ _ _ _ _ _ _ c.requires _ c.gather-fed.ensures _ c.primary_search-first.ensures
-      c.best_slot-a.result c.best_slot-a.ensures _ c.in-At.is,
+      c.best_slot-a.result c.best_slot-a.ensures _ c.in-Some.is,
 )
 
 pub gather-late-requires : goal.gather-late-requires
@@ -35,20 +35,20 @@ overflow_add-least c =
     omega (
       arith,
       least_fits _ _ _ _ _ _ _ _ _ c.requires _ c.gather-fed.ensures _ c.primary_search-first.ensures
-          c.best_slot-a.result c.best_slot-a.ensures _ c.in-At.is,
+          c.best_slot-a.result c.best_slot-a.ensures _ c.in-Some.is,
     )
 
 pub best_slot-b-requires : goal.best_slot-b-requires
 best_slot-b-requires c =
     backup_ready _ _ _ _ _ _ _ _ _ c.requires _ c.gather-fed.ensures _ c.primary_search-first.ensures
-    c.best_slot-a.result c.best_slot-a.ensures _ c.in-At.is _
+    c.best_slot-a.result c.best_slot-a.ensures _ c.in-Some.is _
     c.fault_set-set.ensures _ c.gather-late.ensures _ c.gather_task-barred.ensures.by_index _
     c.backup_search-second.ensures
 
 pub returns-in_default-b : goal.returns-in_default-b
 returns-in_default-b c =
     λ w. no_backup _ _ _ _ _ _ _ _ _ w _ c.gather-fed.ensures _ c.primary_search-first.ensures
-    c.best_slot-a.result c.best_slot-a.ensures _ c.in-At.is _
+    c.best_slot-a.result c.best_slot-a.ensures _ c.in-Some.is _
     c.fault_set-set.ensures _ c.gather-late.ensures _
     c.gather_task-barred.ensures.by_index _ c.backup_search-second.ensures
     c.best_slot-b.result c.best_slot-b.ensures c.in_default-b.is
@@ -56,7 +56,7 @@ returns-in_default-b c =
 pub returns : goal.returns
 returns c =
     λ w. both _ _ _ _ _ _ _ _ _ w _ c.gather-fed.ensures _ c.primary_search-first.ensures
-    c.best_slot-a.result c.best_slot-a.ensures _ c.in-At.is _
+    c.best_slot-a.result c.best_slot-a.ensures _ c.in-Some.is _
     c.fault_set-set.ensures _ c.gather-late.ensures _
     c.gather_task-barred.ensures.by_index _ c.backup_search-second.ensures
-    c.best_slot-b.result c.best_slot-b.ensures _ c.in-At-b.is
+    c.best_slot-b.result c.best_slot-b.ensures _ c.in-Some-b.is
