@@ -5,11 +5,13 @@ use mathlib.Core.Path.{◌≡◌, sym, ◌∙◌, ap, subst}
 use lib.ListN.{get_or, replicate}
 use native.Mathlib.Numerals.{add-one}
 use native.Mathlib.Omega.{arith}
+use Rattle.std.specs.Prelude.{Result}
 use Rattle.reader.specs.declared.job.Job.{Job}
 use Rattle.reader.specs.declared.job.Task.{Task}
 use Rattle.reader.specs.declared.job.Link.{Link}
 use Rattle.reader.specs.declared.plan.Place.{Place}
 use Rattle.reader.specs.declared.plan.Plan.{Plan}
+use Rattle.reader.specs.declared.refusal.Refusal.{Refusal}
 use Rattle.reader.specs.Limits.{max_nodes, max_links}
 use Rattle.reader.specs.Entries.{nodes, tasks, links, group, task, place}
 use Rattle.reader.specs.Sound.{Sound, SoundPlace}
@@ -32,7 +34,6 @@ use Rattle.copies.proofs.TableLaws.{same_row, empty_rows}
 use Rattle.copies.proofs.PlanLayout.{laid_copies}
 use Rattle.judge.proofs.TaskLaws.{copy_fits}
 use Rattle.planner.specs.declared.task.Pair.{Pair}
-use Rattle.planner.specs.declared.task.Placing.{Placing}
 use Rattle.planner.specs.declared.task.Want.{Want}
 use Rattle.planner.specs.Senders.{Into, Results, Sendable, Sent}
 use Rattle.planner.specs.Faults.{Peers}
@@ -253,7 +254,7 @@ module _ (job : Job) (plan : Plan) (d : Description) where
       pub new_wanted : Wanted next from delay cs leave order count peers want
       new_wanted = asked big into _ _ _ _ _ _ _ _ can.sound can.sent stored.beside new_of peers big_peers want want_is
 
-      pub new_told : (a : Placing) → Told next from delay cs leave order count peers want a → attempted a ≡ place_new job plan d
+      pub new_told : (a : Result Pair Refusal) → Told next from delay cs leave order count peers want a → attempted a ≡ place_new job plan d
       new_told a f =
           told big into _ _ _ _ _ _ _ _ can.sound can.sent stored.beside new_of peers big_peers want want_is a f
           ∙ ap (λ t. place_task big (anywhere (tasks job)) (tasks job) t (tasks job)) stored.is

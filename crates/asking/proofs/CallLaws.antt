@@ -2,6 +2,7 @@
 use native.Mathlib.Omega.{arith}
 use mathlib.Core.Path.{◌≡◌, refl, sym, ap, ap₂, ◌∙◌, subst}
 use mathlib.Core.Option.{none, some}
+use Rattle.std.specs.Prelude.{Result, Ok, Err}
 use Rattle.reader.specs.declared.job.Job.{Job}
 use Rattle.reader.specs.declared.plan.Place.{Place}
 use Rattle.reader.specs.declared.plan.Plan.{Plan}
@@ -22,8 +23,6 @@ use Rattle.rules.specs.Asking.{ask, longer, unless_stale, commit}
 use Rattle.rules.proofs.ExtendLaws.{rows_to_same}
 use Rattle.rules.proofs.LongerLaws.{longer_extends, longer_sound, longer_planned}
 use Rattle.planner.specs.declared.task.Pair.{Pair}
-use Rattle.planner.specs.declared.task.Placing.{Placing}
-use Rattle.planner.specs.declared.task.Placing.TheVariants.{At, Nowhere}
 use Rattle.planner.specs.Tasks.{pair_row, attempted}
 use Rattle.asking.specs.declared.Asked.{Asked}
 use Rattle.asking.specs.declared.Committed.{Committed}
@@ -35,7 +34,7 @@ module _ (job : Job) (plan : Plan) (d : Description) (ok : Asking job plan d) wh
   big_sound big is = subst Sound (sym is) (longer_sound job d ok.room ok.new ok.sound)
 
 -- asking
-module _ (job : Job) (plan : Plan) (d : Description) (ok : Asking job plan d) (x : Placing) (told : attempted x ≡ place_new job plan d) where
+module _ (job : Job) (plan : Plan) (d : Description) (ok : Asking job plan d) (x : Result Pair Refusal) (told : attempted x ≡ place_new job plan d) where
   asks : ask job plan d ≡ (attempted x >>= λ r. placed (place_of r))
   unfolding ask
   asks =
@@ -44,11 +43,11 @@ module _ (job : Job) (plan : Plan) (d : Description) (ok : Asking job plan d) (x
       let same = rows_to_same job (longer_job job d) ext plan plan n (omega arith) (λ j p. refl) in
       sym (ap (λ a. a >>= λ r. placed (place_of r)) (told ∙ ap (λ t. place_task (longer_job job d) (anywhere n) n t n) same))
 
-  pub ask_nowhere : (r : Refusal) → x ≡ Nowhere r → (a : Asked) → a ≡ placeless (Refused r) → a ≡ asked (ask job plan d)
+  pub ask_nowhere : (r : Refusal) → x ≡ Err r → (a : Asked) → a ≡ placeless (Refused r) → a ≡ asked (ask job plan d)
   unfolding attempted ◌>>=◌ asked
   ask_nowhere r e a h = let nowhere : ask job plan d ≡ refused r = asks ∙ rw e in rw nowhere h
 
-  pub ask_at : (pair : Pair) → x ≡ At pair → (a : Asked) → a ≡ asked (placed (place_of (pair_row pair))) → a ≡ asked (ask job plan d)
+  pub ask_at : (pair : Pair) → x ≡ Ok pair → (a : Asked) → a ≡ asked (placed (place_of (pair_row pair))) → a ≡ asked (ask job plan d)
   unfolding attempted ◌>>=◌
   ask_at pair e a h = let there : ask job plan d ≡ placed (place_of (pair_row pair)) = asks ∙ rw e in rw there h
 

@@ -10,9 +10,10 @@ use copies::table::Copies;
 use judge::tasks::copy_of;
 use planner::faults::{by_group, fault_set};
 use planner::senders::by_receiver;
-use planner::task::{Pair, Placing, Want, book, lay_both, place_task, send_off};
+use planner::task::{Pair, Want, book, lay_both, place_task, send_off};
 use reader::job::{Job, Node, Task};
 use reader::plan::{Place, Plan};
+use reader::refusal::Refusal;
 use rules::Description;
 
 // Both copies of a task at its place, with its fault set. The chain of the links to it begins at `into`; `own` is the primary's node.
@@ -48,7 +49,7 @@ fn pair_at<'l, 'c>(
 
 // The planner's own step for a new task beside the plan, with its primary anywhere. Of the longer job it makes the links alone.
 // Names of the columns are those of `plan_job`. In the loop the job is read by its parts, or it would be copied once more.
-pub fn place_new(job: Job, plan: Plan, d: Description) -> Placing
+pub fn place_new(job: Job, plan: Plan, d: Description) -> Result<Pair, Refusal>
     requires { Asking job plan d }
     ensures { attempted result ≡ place_new job plan d }
 {
@@ -73,8 +74,7 @@ pub fn place_new(job: Job, plan: Plan, d: Description) -> Placing
     let n = job.task_count as usize;
     let tasks = job.tasks;
     let nodes = job.nodes;
-    let mut j: usize = 0;
-    while j < n {
+    for j in 0..n {
         let at = into[j] as usize;
         let task = tasks[j];
         let place = plan.places[j];
@@ -84,7 +84,6 @@ pub fn place_new(job: Job, plan: Plan, d: Description) -> Placing
         book(&mut on, &mut go, &mut to, &mut set, j, pair);
         send_off(&mut off, nodes, j, pair);
         lay_both(&on, &go, &mut ln, &mut no, j);
-        j += 1;
     }
     let count = job.node_count as usize;
     let mut kin = [0u32; Copies::COUNT];

@@ -16,7 +16,7 @@ ghost use Rattle.asking.specs.Calls.{Asking, Committing, placeless, asked, bookl
 use crate::beside::place_new;
 use crate::longer::{longer_job, longer_plan};
 use judge::judge_plan;
-use planner::task::{Pair, Placing};
+use planner::task::Pair;
 use reader::job::Job;
 use reader::plan::{Place, Plan};
 use reader::refusal::{Answer, Refusal};
@@ -93,8 +93,8 @@ pub fn ask(job: Job, plan: Plan, d: Description) -> Asked
     ensures { result ≡ asked (ask_of job plan d) }
 {
     match place_new(job, plan, d) {
-        Placing::Nowhere(r) => not_placed(Answer::Refused(r)),
-        Placing::At(pair) => placed_as(pair),
+        Err(r) => not_placed(Answer::Refused(r)),
+        Ok(pair) => placed_as(pair),
     }
 }
 

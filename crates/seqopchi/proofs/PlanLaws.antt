@@ -6,7 +6,9 @@ use mathlib.Core.Option.{none}
 use lib.ListN.{length, drop}
 use native.Mathlib.Omega.{arith}
 use borrow.Author.Tests.{lt-leb, le-leb}
+use Rattle.std.specs.Prelude.{Result, Ok, Err}
 use Rattle.reader.specs.declared.job_file.JobRead.{JobRead}
+use Rattle.reader.specs.declared.plan.Plan.{Plan}
 use Rattle.reader.specs.declared.refusal.Refusal.{Refusal}
 use Rattle.reader.specs.declared.refusal.Refusal.TheVariants.{ShortBuffer}
 use Rattle.reader.specs.declared.refusal.Answer.TheVariants.{Done, Refused}
@@ -22,7 +24,6 @@ use Rattle.writer.proofs.PutLaws.{splice_front}
 use Rattle.rules.specs.Attempts.{placed}
 use Rattle.rules.specs.Planner.{planner}
 use Rattle.rules.proofs.PlannedPasses.{planned_sound}
-use Rattle.planner.specs.declared.Planned.{Planned}
 use Rattle.planner.specs.Tasks.{planned}
 use Rattle.planner.proofs.PlannedLaws.{attempt_refused, attempt_placed}
 use Rattle.seqopchi.specs.Files.{refusal_of, plan_or, plan_file_fault, plan_file}
@@ -46,28 +47,28 @@ module _ (file out : List ℕ) (read : JobRead) (is : read ≡ read_job file) wh
     unfolding plan_file_fault plan_file room_fault unless ◌or_else◌
     no_room h = rw ((good file read is done).fault, ← same, lt-leb (plan_length (tasks read.job)) (length out) h)
 
-    module _ (room : plan_length (tasks read.job) ≤ length out) (p : Planned) (ep : p ≡ planned (planner read.job)) where
+    module _ (room : plan_length (tasks read.job) ≤ length out) (p : Result Plan Refusal) (ep : p ≡ planned (planner read.job)) where
       to_planner : plan_file_fault file out ≡ refusal_of (planner read.job)
       unfolding plan_file_fault room_fault unless ◌or_else◌
       to_planner = rw ((good file read is done).fault, ← same, le-leb (plan_length (tasks read.job)) (length out) room)
 
-      pub no_place_lem : {r : Refusal} → p.answer ≡ Refused r → plan_file file out ≡ record { answer = p.answer; buffer = out }
+      pub no_place_lem : {r : Refusal} → p ≡ Err r → plan_file file out ≡ record { answer = Refused r; buffer = out }
       unfolding plan_file
-      no_place_lem q = refuses _ out (to_planner ∙ ap refusal_of (attempt_refused (planner read.job) p ep q)) q
+      no_place_lem q = refuses _ out (to_planner ∙ ap refusal_of (attempt_refused (planner read.job) p ep q)) refl
 
-      module _ (q : p.answer ≡ Done) where
-        found : planner read.job ≡ placed p.plan
+      module _ (plan : Plan) (q : p ≡ Ok plan) where
+        found : planner read.job ≡ placed plan
         found = attempt_placed (planner read.job) p ep q
 
         -- the plan's bytes fit the buffer
-        pub fits : plan_length (min p.plan.task_count max_tasks) ≤ length out
+        pub fits : plan_length (min plan.task_count max_tasks) ≤ length out
         fits =
             let sound = job_sound file read is done in
-            omega (arith, (planned_sound read.job sound p.plan found).count, sound.tasks_most)
+            omega (arith, (planned_sound read.job sound plan found).count, sound.tasks_most)
 
-        pub plan_written : (b : List ℕ) (n : ℕ) → Puts out 0 (plan_numbers p.plan) b n → plan_file file out ≡ record { answer = Done; buffer = b }
+        pub plan_written : (b : List ℕ) (n : ℕ) → Puts out 0 (plan_numbers plan) b n → plan_file file out ≡ record { answer = Done; buffer = b }
         unfolding plan_file plan_bytes
         plan_written b n puts =
             let none_found : plan_file_fault file out ≡ none = to_planner ∙ ap refusal_of found in
-            let plan_is : plan_or (planner (job_at file)) ≡ p.plan = ap (λ j. plan_or (planner j)) (sym same) ∙ ap plan_or found in
+            let plan_is : plan_or (planner (job_at file)) ≡ plan = ap (λ j. plan_or (planner j)) (sym same) ∙ ap plan_or found in
             rw (none_found, plan_is) (ap (λ x. record { answer = Done; buffer = x }) (put_front puts))

@@ -56,14 +56,13 @@ fn plan_file(job: &[u8], out: &mut [u8]) -> Answer
         return Answer::Refused(Refusal::ShortBuffer(need));
     }
     let value = read.job;
-    let planned = plan_job(value);
-    let no_place = planned.answer;
-    let Answer::Done = no_place else {
-        return no_place;
-    };
-    let plan = planned.plan;
-    put_plan(out, plan);
-    Answer::Done
+    match plan_job(value) {
+        Ok(plan) => {
+            put_plan(out, plan);
+            Answer::Done
+        }
+        Err(refusal) => Answer::Refused(refusal),
+    }
 }
 
 // Whether one of the first n nodes is in group q.

@@ -80,11 +80,8 @@ pub fn list_job(job: &[u8], out: &mut [u8; MAX_TEXT]) -> usize
         return put_refusal(out, fault);
     }
     let value = read.job;
-    let planned = plan_job(value);
-    let no_place = planned.answer;
-    if let Answer::Refused(refusal) = no_place {
-        return put_refusal(out, refusal);
+    match plan_job(value) {
+        Ok(plan) => put_plan(out, plan),
+        Err(refusal) => put_refusal(out, refusal),
     }
-    let plan = planned.plan;
-    put_plan(out, plan)
 }

@@ -9,20 +9,20 @@ returns-in_default c = job_refused _ _ _ c.read_job-read.ensures c.in_default.is
 pub returns-then-out-need : goal.returns-then-out-need
 returns-then-out-need c = no_room _ _ _ c.read_job-read.ensures c.in-Done.is c.if-out-need.true
 
-pub plan_job-planned-requires : goal.plan_job-planned-requires
-plan_job-planned-requires c = job_sound _ _ c.read_job-read.ensures c.in-Done.is
+pub plan_job-requires : goal.plan_job-requires
+plan_job-requires c = job_sound _ _ c.read_job-read.ensures c.in-Done.is
 
-pub returns-in_default-no_place : goal.returns-in_default-no_place
-returns-in_default-no_place c =
+pub returns-in-Err : goal.returns-in-Err
+returns-in-Err c =
     no_place_lem _ _ _ c.read_job-read.ensures c.in-Done.is c.if-out-need.false _
-    c.plan_job-planned.ensures c.in_default-no_place.is
+    c.plan_job.ensures c.in-Err.is
 
 pub put_plan-requires : goal.put_plan-requires
 put_plan-requires c =
     fits _ c.args.out.now _ c.read_job-read.ensures c.in-Done.is
-    c.if-out-need.false _ c.plan_job-planned.ensures c.in-Done-no_place.is
+    c.if-out-need.false _ c.plan_job.ensures _ c.in-Ok.is
 
-pub returns : goal.returns
-returns c =
+pub returns-in-Ok : goal.returns-in-Ok
+returns-in-Ok c =
     plan_written _ _ _ c.read_job-read.ensures c.in-Done.is c.if-out-need.false _
-    c.plan_job-planned.ensures c.in-Done-no_place.is _ _ c.put_plan.ensures.1
+    c.plan_job.ensures _ c.in-Ok.is _ _ c.put_plan.ensures.1

@@ -7,7 +7,6 @@ use Rattle.planner.proofs.SenderLaws.{sent_start}
 use Rattle.planner.proofs.PeerLaws.{job_groups, peers_start}
 use Rattle.asking.proofs.BesideLaws.{merged_sendable, beside_none, old_few, old_takeable, old_bookable, old_departing, old_next, old_more}
 use Rattle.asking.proofs.BesideLaws.{new_few, new_wanted, new_told}
-use borrow.Author.Rules.{rules}
 use Rattle.asking.proofs.beside.place_new.Goals as goal
 
 pub merged_links-links-requires : goal.merged_links-links-requires
@@ -46,12 +45,6 @@ pub lay_both-requires : goal.lay_both-requires
 lay_both-requires c =
     old_next _ _ _ _ _ _ _ _ _ _ _ _ c.loop-j.invariant c.loop-j-test.true _ c.pair_at-pair.ensures _
     c.book.ensures
-
-pub overflow_add-j : goal.overflow_add-j
-overflow_add-j c = omega (arith, c.loop-j-test.true, c.loop-j.invariant.asking.sound.tasks_most)
-
-pub loop-j-smaller : goal.loop-j-smaller
-loop-j-smaller c = omega (arith, c.loop-j-test.true)
 
 pub loop-j-preserved : goal.loop-j-preserved
 loop-j-preserved c =

@@ -1,12 +1,7 @@
--- What the loop of `asking::beside::place_new` keeps, and what falls.
-use Prim.Native.Nat.{◌-◌}
-use Rattle.reader.specs.Entries.{tasks}
+-- What the loop of `asking::beside::place_new` keeps.
 use Rattle.copies.specs.Table.{table}
 use Rattle.asking.specs.Beside.{BesideTo}
 use Rattle.asking.proofs.beside.place_new.Given as goal
 
 abbrev pub invariant-loop-j : goal.invariant-loop-j
 invariant-loop-j l = BesideTo l.job l.plan l.d l.into l.nx l.by l.lag l.j (table l.on l.go l.to l.set) l.off l.ln l.no
-
-abbrev pub decreases-loop-j : goal.decreases-loop-j
-decreases-loop-j l = tasks l.job - l.j
