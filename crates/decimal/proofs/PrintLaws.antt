@@ -2,15 +2,16 @@
 use Prim.Native.Nat.{ℕ, ◌+◌, ◌/◌, ◌%◌, ◌≤◌, ◌<◌}
 use mathlib.Core.Path.{◌≡◌, refl, sym, ap, ◌∙◌, subst}
 use mathlib.Core.List.{List, [], ◌∷◌, ◌++◌}
-use lib.ListN.{length, get_or, set, take, length-append, length-set}
-use lib.Seq.{take-suc, take-length, set_split}
+use lib.ListN.{length, set, length-append, length-set}
+use lib.Seq.{drop-drop, set_split}
+use borrow.Rule.Slice.PartMut.{put_mid}
 use native.Mathlib.Numerals.{add-one}
 use native.Mathlib.Omega.{arith}
 use Rattle.writer.specs.Write.{splice, flat}
-use Rattle.writer.proofs.PutLaws.{splice_none, splice_behind}
+use Rattle.writer.proofs.PutLaws.{splice_none, splice_behind, length_splice}
 use Rattle.decimal.specs.Decimal.{digit_zero, decimal}
 use Rattle.decimal.specs.Prints.{Prints}
-use Rattle.decimal.proofs.DecimalLaws.{decimal_one, decimal_more}
+use Rattle.decimal.proofs.DecimalLaws.{decimal_one, decimal_more, length_one, length_more}
 
 pub prints_none : (d : List ℕ) (at : ℕ) → Prints d at [] d at
 prints_none d at = record { buffer = sym (splice_none d at); size = refl; behind = omega arith }
@@ -26,20 +27,20 @@ prints_then {d} {a} {e} {b} {g} {at} {k} {m} p q = record {
   behind = omega (arith, length-append a b);
 }
 
--- the same text, and the same offset behind it, by other names
+-- the same text by another name
 pub prints_same : {d a b e : List ℕ} {at k : ℕ} → a ≡ b → Prints d at a e k → Prints d at b e k
 prints_same {d} {a} {b} {e} {at} {k} h = subst (λ l. Prints d at l e k) h
 
-pub prints_at : {d a e : List ℕ} {at k m : ℕ} → k ≡ m → Prints d at a e k → Prints d at a e m
-prints_at {d} {a} {e} {at} h = subst (Prints d at a e) h
+-- a text copied into a part of the buffer as long as it
+copied_splice : (d s t : List ℕ) (at k : ℕ) → t ≡ s → k ≡ length s → put_mid at k d t ≡ splice d at s
+unfolding splice
+copied_splice d s t at k e size = rw (e, size, drop-drop)
 
--- a loop that prints a text: one turn, and the end
-module _ (d s : List ℕ) (at i : ℕ) {e : List ℕ} (h : Prints d at (take i s) e (at + i)) where
-  pub text_more : i < length s → at + i < length e → Prints d at (take (i + 1) s) (set e (at + i) (get_or s i 0)) (at + (i + 1))
-  text_more p q = rw (add-one, take-suc s i 0) (prints_at (omega arith) (prints_then h (prints_byte e (at + i) (get_or s i 0) q)))
-
-  pub text_whole : i ≡ length s → Prints d at s e (at + i)
-  text_whole p = prints_same (ap (λ n. take n s) p ∙ take-length s) h
+pub text_copied : (d s t : List ℕ) (at k : ℕ) → t ≡ s → k ≡ length s → at + length s ≤ length d
+    → Prints d at s (put_mid at k d t) (at + length s)
+text_copied d s t at k e size room =
+    let whole = copied_splice d s t at k e size in
+    record { buffer = whole; size = ap length whole ∙ length_splice d s at room; behind = refl }
 
 -- a loop that prints rows
 pub rows_more : (row : ℕ → List ℕ) (i : ℕ) {d e g : List ℕ} {at k m : ℕ} → Prints d at (flat i row) e k → Prints e k (row i) g m
@@ -48,10 +49,16 @@ unfolding flat
 rows_more row i p q = rw add-one (prints_then p q)
 
 -- a number: one digit, or its last digit behind the others
-pub digit_printed : (d : List ℕ) (at v b : ℕ) → v < 10 → b ≡ digit_zero + v → at < length d → Prints d at (decimal v) (set d at b) (at + 1)
-digit_printed d at v b h e p = prints_same (ap (λ x. x ∷ []) e ∙ sym (decimal_one v h)) (prints_byte d at b p)
+pub digit_printed : (d : List ℕ) (at v b : ℕ) → v < 10 → b ≡ digit_zero + v → at + length (decimal v) ≤ length d
+    → Prints d at (decimal v) (set d at b) (at + 1)
+digit_printed d at v b h e p =
+    let room : at < length d = omega (arith, length_one v h) in
+    prints_same (ap (λ x. x ∷ []) e ∙ sym (decimal_one v h)) (prints_byte d at b room)
 
 pub last_printed : {d e : List ℕ} {at k : ℕ} (v b : ℕ) → 10 ≤ v → Prints d at (decimal (v / 10)) e k → b ≡ digit_zero + v % 10 → k < length e
     → Prints d at (decimal v) (set e k b) (k + 1)
 last_printed {d} {e} {at} {k} v b h p q l =
     prints_same (ap (λ x. decimal (v / 10) ++ (x ∷ [])) q ∙ sym (decimal_more v h)) (prints_then p (prints_byte e k b l))
+
+-- what the search needs of a number printed by its last digit
+pub ruleset digits_put = (length_one, length_more, last_printed)

@@ -1,5 +1,6 @@
 // Looking for numbers in a text.
-ghost use Rattle.std.specs.Prelude.{◌≤◌, ◌≡◌, true, length};
+ghost use Rattle.std.specs.Char.{is_ascii_digit};
+ghost use Rattle.std.specs.Prelude.{◌≤◌, ◌≡◌, true, length, position};
 ghost use Rattle.decimal.specs.Numbers.{is_digit, grown};
 ghost use Rattle.decimal.specs.Scans.{Skips, Takes, Finds};
 
@@ -10,45 +11,34 @@ pub struct Found {
     pub end: usize,
 }
 
-fn is_digit(b: u8) -> bool
-    ensures { result ≡ is_digit b }
-{
-    if b < b'0' {
-        return false;
-    }
-    b <= b'9'
-}
-
 // A number with one digit more; 0 where it would not fit.
 fn grown(v: usize, b: u8) -> usize
     requires { is_digit b ≡ true }
     ensures { result ≡ grown v b }
 {
     let d = (b - b'0') as usize;
-    if v < 1844674407370955161 {
-        return 10 * v + d;
+    match v.checked_mul(10) {
+        Some(tens) => tens.checked_add(d).unwrap_or(0),
+        None => 0,
     }
-    if v == 1844674407370955161 {
-        if d < 6 {
-            return 10 * v + d;
-        }
-    }
-    0
 }
 
-// The offset of the first digit.
+// Where the first digit stands, if there is one.
+fn first_digit(text: &[u8]) -> Option<usize>
+    ensures { result ≡ position is_ascii_digit text.now }
+{
+    text.iter().position(|b| b.is_ascii_digit())
+}
+
+// The offset of the first digit at or behind another; without one, that of the end.
 fn skip(text: &[u8], at: usize) -> usize
     requires { at ≤ length text.now }
     ensures { Skips text.now at result }
 {
-    let mut i = at;
-    while i < text.len() {
-        if is_digit(text[i]) {
-            return i;
-        }
-        i += 1;
+    match first_digit(&text[at..]) {
+        Some(n) => at + n,
+        None => text.len(),
     }
-    i
 }
 
 // The number that the digits from an offset on spell.
@@ -56,17 +46,18 @@ fn take(text: &[u8], at: usize) -> Found
     requires { at ≤ length text.now }
     ensures { Takes text.now at result }
 {
-    let mut v: usize = 0;
-    let mut i = at;
-    while i < text.len() {
+    let mut v = 0;
+    for i in at..text.len() {
         let b = text[i];
-        if !is_digit(b) {
+        if !b.is_ascii_digit() {
             return Found { value: v, end: i };
         }
         v = grown(v, b);
-        i += 1;
     }
-    Found { value: v, end: i }
+    Found {
+        value: v,
+        end: text.len(),
+    }
 }
 
 // The first number at or behind an offset.
