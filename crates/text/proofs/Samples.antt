@@ -5,7 +5,7 @@ use Rattle.reader.specs.Samples.{J}
 use Rattle.writer.specs.Write.{job_bytes}
 use Rattle.writer.proofs.Samples.{filed}
 use Rattle.rules.proofs.Samples.{computed}
-use Rattle.text.specs.Decimal.{digits, decimal}
+use Rattle.decimal.specs.Decimal.{digits, decimal}
 use Rattle.text.specs.Text.{field, line, header, row, plan_text, refused_word, told_text, attempt_text, read_text, listing}
 
 -- what is opened to print

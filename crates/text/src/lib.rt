@@ -5,10 +5,11 @@ ghost use Rattle.std.specs.Prelude.{◌+◌, ◌*◌, ◌≤◌, length, get_or}
 ghost use Rattle.reader.specs.Limits.{max_tasks};
 ghost use Rattle.reader.specs.Entries.{no_place};
 ghost use Rattle.writer.specs.Write.{flat};
+ghost use Rattle.decimal.specs.Prints.{Prints};
 ghost use Rattle.text.specs.Text.{row, plan_text, refusal_text, listing, max_row, max_text};
-ghost use Rattle.text.specs.Prints.{Prints};
 
-use crate::print::{put_field, put_text};
+use crate::print::put_field;
+use decimal::print::put_text;
 use planner::plan_job;
 use reader::job::Job;
 use reader::job_file::read_job;
@@ -41,11 +42,8 @@ fn put_rows(d: &mut [u8], from: usize, count: usize, places: [Place; Job::MAX_TA
     ensures { (result ≤ from + max_row * count) × Prints d.old from (flat count (λ j. row j (get_or places j no_place))) d.new result }
 {
     let mut at = from;
-    let mut j: usize = 0;
-    while j < count {
-        let place = places[j];
-        at = put_row(d, at, j, place);
-        j += 1;
+    for j in 0..count {
+        at = put_row(d, at, j, places[j]);
     }
     at
 }

@@ -1,5 +1,5 @@
 -- `text::list_job` meets its contract.
-use Rattle.text.proofs.PrintLaws.{prints_same}
+use Rattle.decimal.proofs.PrintLaws.{prints_same}
 use Rattle.text.proofs.ListingLaws.{fault_listed, job_sound, refusal_listed, plan_listed, few_tasks}
 use borrow.Author.Rules.{rules}
 use Rattle.text.proofs.list_job.Goals as goal

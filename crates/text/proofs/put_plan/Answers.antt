@@ -1,7 +1,7 @@
 -- `text::put_plan` meets its contract.
 use native.Mathlib.Omega.{arith}
 use Rattle.text.specs.Text.{header, plan_text}
-use Rattle.text.proofs.PrintLaws.{prints_then}
+use Rattle.decimal.proofs.PrintLaws.{prints_then}
 use Rattle.text.proofs.put_plan.Goals as goal
 
 pub returns : goal.returns

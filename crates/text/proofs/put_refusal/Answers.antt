@@ -2,7 +2,7 @@
 use mathlib.Core.Path.{ap}
 use native.Mathlib.Omega.{arith}
 use Rattle.text.specs.Text.{line, refused_word, told_text}
-use Rattle.text.proofs.PrintLaws.{prints_then, prints_same}
+use Rattle.decimal.proofs.PrintLaws.{prints_then, prints_same}
 use Rattle.text.proofs.put_refusal.Goals as goal
 
 pub returns : goal.returns

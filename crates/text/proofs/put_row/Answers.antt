@@ -2,7 +2,7 @@
 use native.Mathlib.Omega.{arith}
 use Rattle.writer.specs.Write.{place_numbers}
 use Rattle.text.specs.Text.{line, row}
-use Rattle.text.proofs.PrintLaws.{prints_then}
+use Rattle.decimal.proofs.PrintLaws.{prints_then}
 use Rattle.text.proofs.put_row.Goals as goal
 
 pub returns : goal.returns
