@@ -37,9 +37,11 @@ use Rattle.copies.specs.Table.{table, entry, set_at}
 use Rattle.copies.specs.Clash.{clashes}
 use Rattle.copies.proofs.ClashLaws.{clashes_is}
 use Rattle.judge.specs.Overlaps.{apart, pair_apart, pair_breach}
+use Rattle.trial.specs.declared.runs.Outcomes.{Outcomes}
+use Rattle.trial.specs.declared.words.Losses.{Losses}
 use Rattle.trial.specs.Words.{run_count, Tells, either_of}
 use Rattle.trial.specs.Runs.{loss_at, Placed, at, Told}
-use Rattle.trial.specs.Passes.{is_full, done_in, ends_in, loss_in, Losses, loss_from, Passes}
+use Rattle.trial.specs.Passes.{is_full, done_in, ends_in, loss_in, LossesFrom, loss_from, Passes}
 use Rattle.trial.proofs.WordLaws.{tells_either, none_missing, meets_run}
 use Rattle.trial.proofs.PlacedLaws.{copied_at}
 
@@ -63,19 +65,19 @@ done_by_lem by r x p q once =
     or_no true = refl
     or_no false = refl
 
-module _ (job : Job) (cs : Copies) (leave : List ℕ) (w : Placed job cs leave) (lost moment ended sets : List ℕ)
-    (told : Told job w.plan lost moment (tasks job) ended sets) where
+module _ (job : Job) (cs : Copies) (leave : List ℕ) (w : Placed job cs leave) (losses : Losses) (y : Outcomes)
+    (told : Told job w.plan losses (tasks job) y) where
   abbrev t : ℕ → Row
   t = rows job w.plan
 
   abbrev x : ℕ → ℕ → TaskRun
-  x r = replay job w.plan (loss_at lost moment r)
+  x r = replay job w.plan (loss_at losses r)
 
   runs : (j : ℕ) (a : Role) → j < tasks job → (copy_of a (t j)).start < (copy_of a (t j)).finish
   runs = planned_runs job w.plan w.reads
 
-  pub all_end : (every (tasks job) (ends_in ended) ≡ true)
-      ↔ ((r : ℕ) → r < run_count → (j : ℕ) → j < tasks job → is_finished (replay job w.plan (loss_at lost moment r) j).primary ≡ true)
+  pub all_end : (every (tasks job) (ends_in y.ended) ≡ true)
+      ↔ ((r : ℕ) → r < run_count → (j : ℕ) → j < tasks job → is_finished (replay job w.plan (loss_at losses r) j).primary ≡ true)
   unfolding ends_in
   all_end = (
     λ h r p j q. (full _ _ (told.ends j primary q)).0 (every_e (tasks job) _ h j q) r p,
@@ -84,7 +86,7 @@ module _ (job : Job) (cs : Copies) (leave : List ℕ) (w : Placed job cs leave) 
 
   -- the word of a task tells in which runs it is done
   tells_done : (j : ℕ) → (q : j < tasks job) → let by = deadline job j in
-      Tells (either_of (leb (get_or cs.finish (2 * j) 0) by) (get_or ended (2 * j) 0) (leb (get_or cs.finish (2 * j + 1) 0) by) (get_or ended (2 * j + 1) 0))
+      Tells (either_of (leb (get_or cs.finish (2 * j) 0) by) (get_or y.ended (2 * j) 0) (leb (get_or cs.finish (2 * j + 1) 0) by) (get_or y.ended (2 * j + 1) 0))
       (λ r. done_by by (t j) (x r j))
   unfolding replay
   tells_done j q r p =
@@ -93,9 +95,9 @@ module _ (job : Job) (cs : Copies) (leave : List ℕ) (w : Placed job cs leave) 
       ∙ ap₂ (λ (c d : Copy). is_finished (x r j).primary and leb c.finish by or is_finished (x r j).backup and leb d.finish by)
       (copied_at job cs leave w j primary q) (copied_at job cs leave w j backup q)
       ∙ sym (done_by_lem by (t j) (x r j) (omega (arith, runs j primary q)) (omega (arith, runs j backup q))
-      (λ h. (backup_finished job w.sound t (loss_at lost moment r) j q h).0))
+      (λ h. (backup_finished job w.sound t (loss_at losses r) j q h).0))
 
-  pub all_done : (every (tasks job) (done_in job.tasks cs.finish ended) ≡ true)
+  pub all_done : (every (tasks job) (done_in job.tasks cs.finish y.ended) ≡ true)
       ↔ ((r : ℕ) → r < run_count → (j : ℕ) → j < tasks job → done_by (deadline job j) (t j) (x r j) ≡ true)
   unfolding done_in
   all_done = (
@@ -105,7 +107,7 @@ module _ (job : Job) (cs : Copies) (leave : List ℕ) (w : Placed job cs leave) 
 
   -- the table with the runs in which each copy starts as its set
   abbrev marked : Copies
-  marked = table cs.node cs.start cs.finish sets
+  marked = table cs.node cs.start cs.finish y.started
 
   -- copies clash in it exactly if they meet in a run
   module _ (i j : ℕ) (p : i < tasks job) (q : j < tasks job) (a b : Role) where
@@ -162,8 +164,8 @@ module _ (job : Job) (cs : Copies) (leave : List ℕ) (w : Placed job cs leave) 
   )
 
   -- every run is good exactly if both tests say so
-  pub all_good : ((every (tasks job) (done_in job.tasks cs.finish ended) ≡ true) × (first (tasks job) (pair_breach marked (tasks job)) ≡ none))
-      ↔ ((r : ℕ) → r < run_count → good_run job (rows job w.plan) (replay job w.plan (loss_at lost moment r)) ≡ true)
+  pub all_good : ((every (tasks job) (done_in job.tasks cs.finish y.ended) ≡ true) × (first (tasks job) (pair_breach marked (tasks job)) ≡ none))
+      ↔ ((r : ℕ) → r < run_count → good_run job (rows job w.plan) (replay job w.plan (loss_at losses r)) ≡ true)
   unfolding good_run
   all_good = (
     λ h r s. and_i _ _ (every_i (tasks job) _ (all_done.0 h.0 r s))
@@ -175,19 +177,19 @@ module _ (job : Job) (cs : Copies) (leave : List ℕ) (w : Placed job cs leave) 
   )
 
   -- the losses of the pass are those of the plan's primaries
-  module _ (begin : ℕ) (losses : Losses job.nodes cs.node cs.finish begin (tasks job) lost moment) where
-    loss_is : (r : ℕ) → r < run_count → loss_at lost moment r ≡ loss_from job w.plan begin r
+  module _ (begin : ℕ) (noted : LossesFrom job.nodes cs.node cs.finish begin (tasks job) losses) where
+    loss_is : (r : ℕ) → r < run_count → loss_at losses r ≡ loss_from job w.plan begin r
     unfolding loss_in loss_from domain
     loss_is r p =
-        losses r p
+        noted r p
         ∙ split (ltb (begin + r) (tasks job))
         (λ e. rw e (ap (λ (c : Copy). Lost (get_or job.nodes c.node no_node).group (c.finish - 1))
         (copied_at job cs leave w (begin + r) primary (ltb-true (begin + r) (tasks job) e))))
         (λ e. rw e)
 
     pub passes_is : (strict : Bool)
-        → (((strict implies every (tasks job) (ends_in ended)) ≡ true) × (every (tasks job) (done_in job.tasks cs.finish ended) ≡ true)
-        × (first (tasks job) (pair_breach (table cs.node cs.start cs.finish sets) (tasks job)) ≡ none))
+        → (((strict implies every (tasks job) (ends_in y.ended)) ≡ true) × (every (tasks job) (done_in job.tasks cs.finish y.ended) ≡ true)
+        × (first (tasks job) (pair_breach (table cs.node cs.start cs.finish y.started) (tasks job)) ≡ none))
         ↔ Passes job w.plan begin strict
     unfolding good_under
     passes_is strict = (
@@ -207,18 +209,18 @@ module _ (job : Job) (cs : Copies) (leave : List ℕ) (w : Placed job cs leave) 
     abbrev Says : Bool → Bool → Type 0
     Says strict r = (r ≡ true) ↔ Passes job w.plan begin strict
 
-    pub not_ended : (strict v : Bool) → v ≡ (strict implies every (tasks job) (ends_in ended)) → v ≡ false → Says strict false
-    not_ended strict v is e = (λ h. clash false h refl, λ p. clash _ ((passes_is strict).1 p).0 (sym is ∙ e))
+    pub not_ended : (strict v : Bool) → strict ≡ true → v ≡ every (tasks job) (ends_in y.ended) → v ≡ false → Says strict false
+    not_ended strict v asked is e = (λ h. clash false h refl, λ p. clash _ (imp_e _ _ ((passes_is strict).1 p).0 asked) (sym is ∙ e))
 
-    pub not_done : (strict v : Bool) → v ≡ every (tasks job) (done_in job.tasks cs.finish ended) → v ≡ false → Says strict false
+    pub not_done : (strict v : Bool) → v ≡ every (tasks job) (done_in job.tasks cs.finish y.ended) → v ≡ false → Says strict false
     not_done strict v is e = (λ h. clash false h refl, λ p. clash _ ((passes_is strict).1 p).1 (sym is ∙ e))
 
     -- of the answer for pairs
     module _ (strict : Bool) (v : Answer)
-        (is : v ≡ answered (first (tasks job) (pair_breach (table cs.node cs.start cs.finish sets) (tasks job)))) where
+        (is : v ≡ answered (first (tasks job) (pair_breach (table cs.node cs.start cs.finish y.started) (tasks job)))) where
       pub not_apart : (r : Refusal) → v ≡ Refused r → Says strict false
       not_apart r e = (λ h. clash false h refl, λ p. let passed = (answered_done _).1 ((passes_is strict).1 p).2 in never (cc))
 
-      pub passing : (a d : Bool) → a ≡ (strict implies every (tasks job) (ends_in ended)) → a ≡ true
-          → d ≡ every (tasks job) (done_in job.tasks cs.finish ended) → d ≡ true → v ≡ Done → Says strict true
-      passing a d ia ea id ed ev = (λ h. (passes_is strict).0 (sym ia ∙ ea, sym id ∙ ed, (answered_done _).0 (sym is ∙ ev)), λ p. refl)
+      pub passing : (strict implies every (tasks job) (ends_in y.ended)) ≡ true → (d : Bool) → d ≡ every (tasks job) (done_in job.tasks cs.finish y.ended)
+          → d ≡ true → v ≡ Done → Says strict true
+      passing ends d id ed ev = (λ h. (passes_is strict).0 (ends, sym id ∙ ed, (answered_done _).0 (sym is ∙ ev)), λ p. refl)

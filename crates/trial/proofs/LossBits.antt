@@ -1,7 +1,6 @@
 -- What a loss leaves of a copy, as the bits of its runs tell it.
 use Prim.Native.Nat.{ℕ, ◌+◌, ◌<◌}
 use mathlib.Core.Bool.{Bool, true, false, not}
-use mathlib.Core.List.{List}
 use mathlib.Core.Path.{◌≡◌, refl, sym, ◌∙◌, ap}
 use lib.Dec.{leb, ltb, eqb}
 use lib.ListN.{get_or}
@@ -18,6 +17,7 @@ use Rattle.rules.specs.Copies.{domain}
 use Rattle.rules.specs.Replay.{is_finished, started, attempt}
 use Rattle.rules.specs.Trial.{is_started}
 use Rattle.rules.proofs.MomentLaws.{lost_finished}
+use Rattle.trial.specs.declared.words.Losses.{Losses}
 use Rattle.trial.specs.Words.{stays_to}
 use Rattle.trial.specs.Runs.{no_group, loss_at}
 
@@ -64,25 +64,25 @@ module _ (job : Job) (loss : Loss) (c : Copy) where
   starts_may false = refl
 
 -- by the loss of run r, on a node of a group
-module _ (job : Job) (lost moment : List ℕ) (r : ℕ) (c : Copy) (g : ℕ) (in_group : domain job c.node ≡ g) (low : g < no_group) where
-  none_lost : eqb (get_or lost r 0) no_group ≡ true → (by : ℕ) → stays_to lost moment g by r ≡ true
+module _ (job : Job) (losses : Losses) (r : ℕ) (c : Copy) (g : ℕ) (in_group : domain job c.node ≡ g) (low : g < no_group) where
+  none_lost : eqb (get_or losses.lost r 0) no_group ≡ true → (by : ℕ) → stays_to losses g by r ≡ true
   unfolding ◌or◌
-  none_lost e by = rw (ne_eqb (get_or lost r 0) g λ f. omega (arith, eqb-true (get_or lost r 0) no_group e))
+  none_lost e by = rw (ne_eqb (get_or losses.lost r 0) g λ f. omega (arith, eqb-true (get_or losses.lost r 0) no_group e))
 
-  pub stays_ends : c.start < c.finish → stays_to lost moment g c.finish r ≡ is_finished (started job (loss_at lost moment r) c)
+  pub stays_ends : c.start < c.finish → stays_to losses g c.finish r ≡ is_finished (started job (loss_at losses r) c)
   unfolding loss_at started
   stays_ends runs =
-      split (eqb (get_or lost r 0) no_group)
+      split (eqb (get_or losses.lost r 0) no_group)
       (λ e. none_lost e c.finish ∙ rw e)
-      (λ e. rw e (ap (λ b. not b or leb c.finish (get_or moment r 0)) (eqb_turned _ g ∙ ap (λ n. eqb n (get_or lost r 0)) (sym in_group))
-      ∙ sym (lost_finished job (get_or lost r 0) (get_or moment r 0) c runs)))
+      (λ e. rw e (ap (λ b. not b or leb c.finish (get_or losses.moment r 0)) (eqb_turned _ g ∙ ap (λ n. eqb n (get_or losses.lost r 0)) (sym in_group))
+      ∙ sym (lost_finished job (get_or losses.lost r 0) (get_or losses.moment r 0) c runs)))
 
-  pub stays_starts : stays_to lost moment g (c.start + 1) r ≡ is_started (started job (loss_at lost moment r) c)
+  pub stays_starts : stays_to losses g (c.start + 1) r ≡ is_started (started job (loss_at losses r) c)
   unfolding loss_at started ◌or◌
   stays_starts =
-      split (eqb (get_or lost r 0) no_group)
+      split (eqb (get_or losses.lost r 0) no_group)
       (λ e. none_lost e (c.start + 1) ∙ rw e)
-      (λ e. rw (e, add-one c.start, eqb_turned (get_or lost r 0) g, ← in_group) (by_loss (get_or lost r 0) (get_or moment r 0)))
+      (λ e. rw (e, add-one c.start, eqb_turned (get_or losses.lost r 0) g, ← in_group) (by_loss (get_or losses.lost r 0) (get_or losses.moment r 0)))
     where
       by_loss : (q f : ℕ) → (not (eqb (domain job c.node) q) or ltb c.start f) ≡ is_started (started job (Lost q f) c)
       by_loss q f =

@@ -13,6 +13,7 @@ use Rattle.copies.specs.declared.table.Copies.{Copies}
 use Rattle.copies.specs.declared.arrival.Outgoing.{Outgoing}
 use Rattle.copies.specs.Arrival.{result_at}
 use Rattle.copies.specs.Table.{entry}
+use Rattle.trial.specs.declared.words.Losses.{Losses}
 use Rattle.trial.specs.Words.{run_count, without_of, spared_in}
 use Rattle.trial.specs.Runs.{fed_of, fed_one, fed_with, Settled}
 
@@ -37,15 +38,17 @@ module _ (cs : Copies) (leave : List ℕ) (l : Link) (ended : List ℕ) where
       ∙ ap (fed_one cs leave l ended (2 * l.to + 1)) (fed_one_lem (2 * l.to) fed p b q v ep eb eq ev)
 
 -- one task, as the code goes
-module _ (start finish fed lost moment : List ℕ) (own other : Node) (ready j : ℕ) (ended sets : List ℕ) where
+module _ (start finish fed : List ℕ) (losses : Losses) (own other : Node) (ready j : ℕ) (ended started : List ℕ) where
   pub settled_is : (may call called pe ps be bs : ℕ) → may ≡ cond (leb ready (get_or start (2 * j) 0)) (get_or fed (2 * j) 0) 0
-      → pe ≡ spared_in lost moment own.group (get_or finish (2 * j) 0) run_count
-      → ps ≡ spared_in lost moment own.group (get_or start (2 * j) 0 + 1) run_count
+      → pe ≡ spared_in losses own.group (get_or finish (2 * j) 0) run_count
+      → ps ≡ spared_in losses own.group (get_or start (2 * j) 0 + 1) run_count
       → call ≡ cond (leb (get_or finish (2 * j) 0 + own.detect) (get_or start (2 * j + 1) 0)) (get_or fed (2 * j + 1) 0) 0
       → called ≡ without_of call (bit_and may pe)
-      → be ≡ spared_in lost moment other.group (get_or finish (2 * j + 1) 0) run_count
-      → bs ≡ spared_in lost moment other.group (get_or start (2 * j + 1) 0 + 1) run_count
-      → Settled start finish fed lost moment own other ready j ended sets
-      (set (set ended (2 * j) (bit_and may pe)) (2 * j + 1) (bit_and called be)) (set (set sets (2 * j) (bit_and may ps)) (2 * j + 1) (bit_and called bs))
+      → be ≡ spared_in losses other.group (get_or finish (2 * j + 1) 0) run_count
+      → bs ≡ spared_in losses other.group (get_or start (2 * j + 1) 0 + 1) run_count
+      → Settled start finish fed losses own other ready j (record { ended = ended; started = started }) (record {
+        ended = set (set ended (2 * j) (bit_and may pe)) (2 * j + 1) (bit_and called be);
+        started = set (set started (2 * j) (bit_and may ps)) (2 * j + 1) (bit_and called bs);
+      })
   settled_is may call called pe ps be bs em epe eps ec ecd ebe ebs =
       record { ends = rw (ecd, ec, em, epe, ebe); starts = rw (ecd, ec, em, epe, eps, ebs) }

@@ -13,7 +13,7 @@ use native.Mathlib.Omega.{arith}
 use Rattle.reader.specs.declared.job.Job.{Job}
 use Rattle.reader.specs.declared.job.Link.{Link}
 use Rattle.reader.specs.declared.job.Node.{Node}
-use Rattle.reader.specs.Tests.{◌and◌, ◌or◌, ◌implies◌}
+use Rattle.reader.specs.Tests.{◌and◌, ◌or◌}
 use Rattle.reader.specs.First.{every}
 use Rattle.reader.specs.Entries.{nodes, tasks, links, ready, link, no_node}
 use Rattle.reader.proofs.TestLaws.{split, below_suc, and_yes}
@@ -34,36 +34,29 @@ use Rattle.copies.specs.Table.{copy_count}
 use Rattle.copies.proofs.SetLaws.{has_every}
 use Rattle.copies.proofs.ArrivalLaws.{comes_is, result_is}
 use Rattle.replay.proofs.LinkOrder.{ahead}
+use Rattle.trial.specs.declared.runs.Outcomes.{Outcomes}
+use Rattle.trial.specs.declared.words.Losses.{Losses}
 use Rattle.trial.specs.Words.{run_count, Tells, Narrow, spared_in}
 use Rattle.trial.specs.Runs.{fed_by, fed_one, fed_with, may, primary_ends, primary_starts, called, backup_ends, backup_starts, of_task, Settled}
-use Rattle.trial.specs.Runs.{no_group, loss_at, Placed, at, Told}
+use Rattle.trial.specs.Runs.{no_group, loss_at, Placed, at, Told, brings, Upto}
 use Rattle.trial.proofs.LossBits.{implied, free, turned, turned_call, ends_may, starts_may, stays_ends, stays_starts}
 use Rattle.trial.proofs.PlacedLaws.{copied_at}
 use Rattle.trial.proofs.WordLaws.{tells_picked, tells_both, tells_either, tells_without, tells_spared, narrow_both, narrow_spared}
 
 -- the plan of a table, and its runs
-module _ (job : Job) (cs : Copies) (leave : List ℕ) (w : Placed job cs leave) (lost moment : List ℕ) where
+module _ (job : Job) (cs : Copies) (leave : List ℕ) (w : Placed job cs leave) (losses : Losses) where
   abbrev t : ℕ → Row
   t = rows job w.plan
 
   abbrev x : ℕ → ℕ → TaskRun
-  x r = replay job w.plan (loss_at lost moment r)
+  x r = replay job w.plan (loss_at losses r)
 
-  -- link m brings its input to copy a of task i in run r, if it leads there
-  abbrev brings : ℕ → Role → ℕ → ℕ → Bool
-  brings i a r m = let l = link job m in eqb l.to i implies arrived job l (t l.from) (x r l.from) (copy_of a (t i))
+  abbrev carries : ℕ → Role → ℕ → ℕ → Bool
+  carries = brings job w.plan losses
 
-  -- what is known after j tasks and k links
-  pub record Upto (j k : ℕ) (feds ended sets : List ℕ) : Type 0 where
-    pub within : j ≤ tasks job
-    pub links_within : k ≤ links job
-    pub size : length feds ≡ copy_count
-    pub told : Told job w.plan lost moment j ended sets
-    pub inputs : (i : ℕ) (a : Role) → i < tasks job → Tells (get_or feds (at i a) 0) (λ r. every k (brings i a r))
-
-  pub upto_start : (ended sets : List ℕ) → length ended ≡ copy_count → length sets ≡ copy_count
-      → Upto 0 0 (replicate copy_count every_group) ended sets
-  upto_start ended sets le ls =
+  pub upto_start : (x : Outcomes) → length x.ended ≡ copy_count → length x.started ≡ copy_count
+      → Upto job w.plan losses 0 0 (replicate copy_count every_group) x
+  upto_start x le ls =
       record {
         within = omega arith;
         links_within = omega arith;
@@ -71,20 +64,20 @@ module _ (job : Job) (cs : Copies) (leave : List ℕ) (w : Placed job cs leave) 
         told =
             record {
               ended_size = le;
-              sets_size = ls;
+              started_size = ls;
               ends = λ j a p. absurd (not-suc-le-zero p);
               starts = λ j a p. absurd (not-suc-le-zero p);
               narrow = λ j a p. absurd (not-suc-le-zero p);
             };
         inputs = λ i a p r q.
-            ap (λ v. has v r) (get_or-replicate copy_count (at i a) every_group 0 (low i a p)) ∙ has_every r q ∙ sym (every_start (brings i a r));
+            ap (λ v. has v r) (get_or-replicate copy_count (at i a) every_group 0 (low i a p)) ∙ has_every r q ∙ sym (every_start (carries i a r));
       }
     where
       low : (i : ℕ) (a : Role) → i < tasks job → at i a < copy_count
       low i primary p = omega (arith, w.sound.tasks_most)
       low i backup p = omega (arith, w.sound.tasks_most)
 
-  module _ (j k : ℕ) (feds ended sets : List ℕ) (u : Upto j k feds ended sets) where
+  module _ (j k : ℕ) (feds : List ℕ) (y : Outcomes) (u : Upto job w.plan losses j k feds y) where
     -- link k, whose sender is settled
     module _ (more : k < links job) (settled : (link job k).from < j) where
       abbrev l : Link
@@ -104,48 +97,48 @@ module _ (job : Job) (cs : Copies) (leave : List ℕ) (w : Placed job cs leave) 
           below backup = omega (arith, from_below)
 
       -- the runs in which copy c has its input by it
-      tells_fed : (c : Copy) → Tells (fed_by cs leave l ended c) (λ r. arrived job l (t l.from) (x r l.from) c)
+      tells_fed : (c : Copy) → Tells (fed_by cs leave l y.ended c) (λ r. arrived job l (t l.from) (x r l.from) c)
       unfolding arrived
       tells_fed c r p =
-          tells_either (get_or ended (2 * l.from) 0) (get_or ended (2 * l.from + 1) 0) _ _
+          tells_either (get_or y.ended (2 * l.from) 0) (get_or y.ended (2 * l.from + 1) 0) _ _
           (u.told.ends l.from primary settled) (u.told.ends l.from backup settled) _ _ r p
           ∙ ap₂ (λ s v. is_finished (x r l.from).primary and s or is_finished (x r l.from).backup and v) (comes_at primary c) (comes_at backup c)
 
       -- at the copies of its receiver, and at others
       fed_here : (a : Role) (feds' : List ℕ) → length feds' ≡ copy_count → get_or feds' (at l.to a) 0 ≡ get_or feds (at l.to a) 0
-          → Tells (get_or (fed_one cs leave l ended (at l.to a) feds') (at l.to a) 0) (λ r. every (k + 1) (brings l.to a r))
+          → Tells (get_or (fed_one cs leave l y.ended (at l.to a) feds') (at l.to a) 0) (λ r. every (k + 1) (carries l.to a r))
       fed_here a feds' long same r p =
           let low = w.sound.into k more in
           ap (λ v. has v r) (get_or-set_same feds' (at l.to a) _ 0 (room a))
           ∙ tells_both _ _ _ _ (λ r q. ap (λ v. has v r) same ∙ u.inputs l.to a low r q)
-          (λ r q. ap (λ c. has (fed_by cs leave l ended c) r) (copied_at job cs leave w l.to a low) ∙ tells_fed (copy_of a (t l.to)) r q) r p
-          ∙ ap (λ b. every k (brings l.to a r) and b) (sym (implied _ _ (eq-eqb l.to l.to refl)))
-          ∙ sym (every_more k (brings l.to a r))
+          (λ r q. ap (λ c. has (fed_by cs leave l y.ended c) r) (copied_at job cs leave w l.to a low) ∙ tells_fed (copy_of a (t l.to)) r q) r p
+          ∙ ap (λ b. every k (carries l.to a r) and b) (sym (implied _ _ (eq-eqb l.to l.to refl)))
+          ∙ sym (every_more k (carries l.to a r))
         where
           room : (a : Role) → at l.to a < length feds'
           room primary = omega (arith, long, w.sound.into k more, w.sound.tasks_most)
           room backup = omega (arith, long, w.sound.into k more, w.sound.tasks_most)
 
       fed_stays : (i : ℕ) (a : Role) → i < tasks job → (l.to ≡ i → ⊥) → (feds' : List ℕ) → get_or feds' (at i a) 0 ≡ get_or feds (at i a) 0
-          → Tells (get_or feds' (at i a) 0) (λ r. every (k + 1) (brings i a r))
+          → Tells (get_or feds' (at i a) 0) (λ r. every (k + 1) (carries i a r))
       fed_stays i a low other feds' same r p =
           ap (λ v. has v r) same ∙ u.inputs i a low r p ∙ sym (and_yes _)
-          ∙ ap (λ b. every k (brings i a r) and b) (sym (free _ _ (ne_eqb l.to i other))) ∙ sym (every_more k (brings i a r))
+          ∙ ap (λ b. every k (carries i a r) and b) (sym (free _ _ (ne_eqb l.to i other))) ∙ sym (every_more k (carries i a r))
 
       abbrev once : List ℕ
-      once = fed_one cs leave l ended (2 * l.to) feds
+      once = fed_one cs leave l y.ended (2 * l.to) feds
 
       abbrev twice : List ℕ
-      twice = fed_one cs leave l ended (2 * l.to + 1) once
+      twice = fed_one cs leave l y.ended (2 * l.to + 1) once
 
-      inputs_more : (i : ℕ) (a : Role) → i < tasks job → Tells (get_or twice (at i a) 0) (λ r. every (k + 1) (brings i a r))
+      inputs_more : (i : ℕ) (a : Role) → i < tasks job → Tells (get_or twice (at i a) 0) (λ r. every (k + 1) (carries i a r))
       inputs_more i a low =
           split (eqb l.to i)
           (λ e. let is = eqb-true l.to i e in
-          subst (λ i. Tells (get_or twice (at i a) 0) (λ r. every (k + 1) (brings i a r))) is (here a))
+          subst (λ i. Tells (get_or twice (at i a) 0) (λ r. every (k + 1) (carries i a r))) is (here a))
           (λ e. let ne = eqb-false l.to i e in fed_stays i a low ne twice (away a ne))
         where
-          here : (a : Role) → Tells (get_or twice (at l.to a) 0) (λ r. every (k + 1) (brings l.to a r))
+          here : (a : Role) → Tells (get_or twice (at l.to a) 0) (λ r. every (k + 1) (carries l.to a r))
           here primary r p =
               ap (λ v. has v r) (get_or-set_other once (2 * l.to + 1) (2 * l.to) _ 0 (λ e. omega arith)) ∙ fed_here primary feds u.size refl r p
           here backup r p =
@@ -158,10 +151,10 @@ module _ (job : Job) (cs : Copies) (leave : List ℕ) (w : Placed job cs leave) 
               get_or-set_other once (2 * l.to + 1) (2 * i + 1) _ 0 (λ e. ne (omega arith))
               ∙ get_or-set_other feds (2 * l.to) (2 * i + 1) _ 0 (λ e. omega arith)
 
-      pub upto_sent : (feds' : List ℕ) → feds' ≡ fed_with cs leave (link job k) ended feds → Upto j (k + 1) feds' ended sets
+      pub upto_sent : (feds' : List ℕ) → feds' ≡ fed_with cs leave (link job k) y.ended feds → Upto job w.plan losses j (k + 1) feds' y
       unfolding fed_with
       upto_sent feds' e =
-          subst (λ z. Upto j (k + 1) z ended sets) (sym e)
+          subst (λ z. Upto job w.plan losses j (k + 1) z y) (sym e)
           (record {
             within = u.within;
             links_within = omega arith;
@@ -170,18 +163,21 @@ module _ (job : Job) (cs : Copies) (leave : List ℕ) (w : Placed job cs leave) 
             inputs = inputs_more;
           })
 
+    pub upto_link : (m : ℕ) → k ≡ m → Upto job w.plan losses j m feds y
+    upto_link m e = subst (λ i. Upto job w.plan losses j i feds y) e u
+
     -- task j, which no link is left to feed
     module _ (below : j < tasks job) (left : k < links job → j ≤ (link job k).from) where
       fed_all : (a : Role) → Tells (get_or feds (at j a) 0) (λ r. fed job t (x r) j (copy_of a (t j)))
       unfolding fed
       fed_all a r p =
           u.inputs j a below r p
-          ∙ every_rest (brings j a r) k (links job) u.links_within λ m q s.
+          ∙ every_rest (carries j a r) k (links job) u.links_within λ m q s.
           free _ _ (ne_eqb (link job m).to j (λ e. omega (arith, ahead job w.sound j k m (left (omega arith)) q s, w.sound.rise m s)))
 
-      run_own : (r : ℕ) → x r j ≡ run_task job t t (loss_at lost moment r) (x r) j
+      run_own : (r : ℕ) → x r j ≡ run_task job t t (loss_at losses r) (x r) j
       unfolding replay
-      run_own r = runs_own job w.sound t t (loss_at lost moment r) j below
+      run_own r = runs_own job w.sound t t (loss_at losses r) j below
 
       -- a copy of it that may start in these runs, on a node of this group
       module _ (a : Role) (g may : ℕ) (f : ℕ → Bool) (tells : Tells may f) (in_group : domain job (copy_of a (t j)).node ≡ g) where
@@ -193,19 +189,19 @@ module _ (job : Job) (cs : Copies) (leave : List ℕ) (w : Placed job cs leave) 
             on primary = rw (row_primary job w.plan (tasks job) j below) (w.reads.primary_node j below)
             on backup = rw (row_backup job w.plan (tasks job) j below) (w.reads.backup_node j below)
 
-        may_end : Tells (bit_and may (spared_in lost moment g (copy_of a (t j)).finish run_count))
-            (λ r. is_finished (attempt job (loss_at lost moment r) (f r) (copy_of a (t j))))
+        may_end : Tells (bit_and may (spared_in losses g (copy_of a (t j)).finish run_count))
+            (λ r. is_finished (attempt job (loss_at losses r) (f r) (copy_of a (t j))))
         may_end r p =
-            tells_both _ _ _ _ tells (tells_spared lost moment g (copy_of a (t j)).finish) r p
-            ∙ ap (λ b. f r and b) (stays_ends job lost moment r (copy_of a (t j)) g in_group low (planned_runs job w.plan w.reads j a below))
-            ∙ sym (ends_may job (loss_at lost moment r) (copy_of a (t j)) (f r))
+            tells_both _ _ _ _ tells (tells_spared losses g (copy_of a (t j)).finish) r p
+            ∙ ap (λ b. f r and b) (stays_ends job losses r (copy_of a (t j)) g in_group low (planned_runs job w.plan w.reads j a below))
+            ∙ sym (ends_may job (loss_at losses r) (copy_of a (t j)) (f r))
 
-        may_start : Tells (bit_and may (spared_in lost moment g ((copy_of a (t j)).start + 1) run_count))
-            (λ r. is_started (attempt job (loss_at lost moment r) (f r) (copy_of a (t j))))
+        may_start : Tells (bit_and may (spared_in losses g ((copy_of a (t j)).start + 1) run_count))
+            (λ r. is_started (attempt job (loss_at losses r) (f r) (copy_of a (t j))))
         may_start r p =
-            tells_both _ _ _ _ tells (tells_spared lost moment g ((copy_of a (t j)).start + 1)) r p
-            ∙ ap (λ b. f r and b) (stays_starts job lost moment r (copy_of a (t j)) g in_group low)
-            ∙ sym (starts_may job (loss_at lost moment r) (copy_of a (t j)) (f r))
+            tells_both _ _ _ _ tells (tells_spared losses g ((copy_of a (t j)).start + 1)) r p
+            ∙ ap (λ b. f r and b) (stays_starts job losses r (copy_of a (t j)) g in_group low)
+            ∙ sym (starts_may job (loss_at losses r) (copy_of a (t j)) (f r))
 
       -- what is said of its two copies
       abbrev of_copies : Copy → Copy → (ℕ → ℕ → ℕ → ℕ → ℕ → ℕ → ℕ) → ℕ
@@ -218,8 +214,8 @@ module _ (job : Job) (cs : Copies) (leave : List ℕ) (w : Placed job cs leave) 
       -- its nodes
       module _ (own other : Node) (is_own : own ≡ get_or job.nodes (t j).primary.node no_node)
           (is_other : other ≡ get_or job.nodes (t j).backup.node no_node) where
-        abbrev words : (List ℕ → List ℕ → Node → Node → ℕ → ℕ → ℕ → ℕ → ℕ → ℕ → ℕ → ℕ) → ℕ
-        words f = of_copies (t j).primary (t j).backup (f lost moment own other (ready job j))
+        abbrev words : (Losses → Node → Node → ℕ → ℕ → ℕ → ℕ → ℕ → ℕ → ℕ → ℕ) → ℕ
+        words f = of_copies (t j).primary (t j).backup (f losses own other (ready job j))
 
         may_primary : Tells (words may) (λ r. rule_ready job j (t j).primary and fed job t (x r) j (t j).primary)
         unfolding rule_ready
@@ -251,11 +247,11 @@ module _ (job : Job) (cs : Copies) (leave : List ℕ) (w : Placed job cs leave) 
             and fed job t (x r) j (t j).backup) is_own
 
         run_backup_lem : (r : ℕ) → (x r j).backup
-            ≡ attempt job (loss_at lost moment r) (not (is_finished (x r j).primary) and rule_b job (t j) and fed job t (x r) j (t j).backup) (t j).backup
+            ≡ attempt job (loss_at losses r) (not (is_finished (x r j).primary) and rule_b job (t j) and fed job t (x r) j (t j).backup) (t j).backup
         unfolding run_task run_backup
         run_backup_lem r =
             ap (λ y. y.backup) (run_own r)
-            ∙ ap (λ s. attempt job (loss_at lost moment r) (not (is_finished s) and rule_b job (t j) and fed job t (x r) j (t j).backup) (t j).backup)
+            ∙ ap (λ s. attempt job (loss_at losses r) (not (is_finished s) and rule_b job (t j) and fed job t (x r) j (t j).backup) (t j).backup)
             (sym (ap (λ y. y.primary) (run_own r)))
 
         other_ends : Tells (words backup_ends) (λ r. is_finished (x r j).backup)
@@ -265,10 +261,10 @@ module _ (job : Job) (cs : Copies) (leave : List ℕ) (w : Placed job cs leave) 
         other_starts r p = may_start backup other.group _ _ may_backup in_other r p ∙ ap is_started (sym (run_backup_lem r))
 
         own_narrow : Narrow (words primary_starts)
-        own_narrow = narrow_both (words may) _ (narrow_spared lost moment own.group ((t j).primary.start + 1))
+        own_narrow = narrow_both (words may) _ (narrow_spared losses own.group ((t j).primary.start + 1))
 
         other_narrow : Narrow (words backup_starts)
-        other_narrow = narrow_both (words called) _ (narrow_spared lost moment other.group ((t j).backup.start + 1))
+        other_narrow = narrow_both (words called) _ (narrow_spared losses other.group ((t j).backup.start + 1))
 
         -- the words that are there, with those of its two copies
         module _ (P : ℕ → ℕ → Role → Type 0) (list : List ℕ) (long : length list ≡ copy_count) (v v' : ℕ)
@@ -297,13 +293,13 @@ module _ (job : Job) (cs : Copies) (leave : List ℕ) (w : Placed job cs leave) 
               off primary n p q e = omega arith
               off backup n p q e = omega arith
 
-        pub upto_settled : (ended' sets' : List ℕ) → Settled cs.start cs.finish feds lost moment own other (ready job j) j ended sets ended' sets'
-            → Upto (j + 1) k feds ended' sets'
-        upto_settled ended' sets' s =
-            let ends = s.ends ∙ ap₂ (λ v v'. set (set ended (2 * j) v) (2 * j + 1) v')
-            (is_copies (primary_ends lost moment own other (ready job j))) (is_copies (backup_ends lost moment own other (ready job j))) in
-            let starts = s.starts ∙ ap₂ (λ v v'. set (set sets (2 * j) v) (2 * j + 1) v')
-            (is_copies (primary_starts lost moment own other (ready job j))) (is_copies (backup_starts lost moment own other (ready job j))) in
+        pub upto_settled : (y' : Outcomes) → Settled cs.start cs.finish feds losses own other (ready job j) j y y'
+            → Upto job w.plan losses (j + 1) k feds y'
+        upto_settled y' s =
+            let ends = s.ends ∙ ap₂ (λ v v'. set (set y.ended (2 * j) v) (2 * j + 1) v')
+            (is_copies (primary_ends losses own other (ready job j))) (is_copies (backup_ends losses own other (ready job j))) in
+            let starts = s.starts ∙ ap₂ (λ v v'. set (set y.started (2 * j) v) (2 * j + 1) v')
+            (is_copies (primary_starts losses own other (ready job j))) (is_copies (backup_starts losses own other (ready job j))) in
             let old = u.told in
             record {
               within = omega arith;
@@ -311,18 +307,18 @@ module _ (job : Job) (cs : Copies) (leave : List ℕ) (w : Placed job cs leave) 
               size = u.size;
               told =
                   record {
-                    ended_size = ap length ends ∙ length-set (set ended (2 * j) _) (2 * j + 1) _ ∙ length-set ended (2 * j) _ ∙ old.ended_size;
-                    sets_size = ap length starts ∙ length-set (set sets (2 * j) _) (2 * j + 1) _ ∙ length-set sets (2 * j) _ ∙ old.sets_size;
+                    ended_size = ap length ends ∙ length-set (set y.ended (2 * j) _) (2 * j + 1) _ ∙ length-set y.ended (2 * j) _ ∙ old.ended_size;
+                    started_size = ap length starts ∙ length-set (set y.started (2 * j) _) (2 * j + 1) _ ∙ length-set y.started (2 * j) _ ∙ old.started_size;
                     ends = subst (λ z. (i : ℕ) (a : Role) → i < j + 1 → Tells (get_or z (at i a) 0) (λ r. is_finished (state_of a (x r i)))) (sym ends)
-                        (new_at (λ v i a. Tells v (λ r. is_finished (state_of a (x r i)))) ended old.ended_size _ _ own_ends other_ends old.ends);
+                        (new_at (λ v i a. Tells v (λ r. is_finished (state_of a (x r i)))) y.ended old.ended_size _ _ own_ends other_ends old.ends);
                     starts = subst (λ z. (i : ℕ) (a : Role) → i < j + 1 → Tells (get_or z (at i a) 0) (λ r. is_started (state_of a (x r i))))
                         (sym starts)
-                        (new_at (λ v i a. Tells v (λ r. is_started (state_of a (x r i)))) sets old.sets_size _ _ own_starts other_starts old.starts);
+                        (new_at (λ v i a. Tells v (λ r. is_started (state_of a (x r i)))) y.started old.started_size _ _ own_starts other_starts old.starts);
                     narrow = subst (λ z. (i : ℕ) (a : Role) → i < j + 1 → Narrow (get_or z (at i a) 0)) (sym starts)
-                        (new_at (λ v i a. Narrow v) sets old.sets_size _ _ own_narrow other_narrow old.narrow);
+                        (new_at (λ v i a. Narrow v) y.started old.started_size _ _ own_narrow other_narrow old.narrow);
                   };
               inputs = u.inputs;
             }
 
-    pub upto_done : tasks job ≤ j → Told job w.plan lost moment (tasks job) ended sets
-    upto_done p = let d : j ≡ tasks job = omega (arith, u.within) in subst (λ n. Told job w.plan lost moment n ended sets) d u.told
+    pub upto_done : tasks job ≤ j → Told job w.plan losses (tasks job) y
+    upto_done p = let d : j ≡ tasks job = omega (arith, u.within) in subst (λ n. Told job w.plan losses n y) d u.told

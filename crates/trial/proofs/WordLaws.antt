@@ -1,7 +1,6 @@
 -- Laws of runs as bits: what the words tell of each run.
-use Prim.Native.Nat.{ℕ, zero, suc, ◌+◌, ◌/◌, ◌%◌, ◌^◌, ◌≤◌, ◌<◌}
+use Prim.Native.Nat.{ℕ, zero, suc, ◌+◌, ◌-◌, ◌/◌, ◌%◌, ◌^◌, ◌≤◌, ◌<◌}
 use mathlib.Core.Bool.{Bool, true, false, not, ◌||◌, cond}
-use mathlib.Core.List.{List}
 use mathlib.Core.Logic.{◌↔◌}
 use mathlib.Core.Path.{◌≡◌, refl, sym, ◌∙◌, ap, ap₂}
 use lib.Arith.{digits_mod}
@@ -13,6 +12,8 @@ use native.Mathlib.Decide.{dec_lt}
 use native.Mathlib.Nat.{mod-lt, zero-lt-suc}
 use native.Mathlib.Numerals.{add-one}
 use native.Mathlib.Omega.{arith}
+use Rattle.std.specs.Int.Bits.{and_self, xor_add_and}
+use Rattle.std.proofs.lemmas.Nat.{and-not, and_comm, and_assoc}
 use Rattle.reader.specs.Tests.{◌and◌, ◌or◌}
 use Rattle.reader.specs.First.{any}
 use Rattle.reader.proofs.TestLaws.{split, clash, not_true, not_false, and_i, and_l, and_r, and_if, and_unless, or_e, or_l, or_r, not_e, not_i, same_test}
@@ -20,6 +21,7 @@ use Rattle.reader.proofs.FirstLaws.{any_same}
 use Rattle.copies.specs.Sets.{has, meets, every_group}
 use Rattle.copies.proofs.SetLaws.{has_union, has_both, has_none, has_one, has_every, empty_set, meets_any}
 use Rattle.copies.proofs.MemberLaws.{has_part}
+use Rattle.trial.specs.declared.words.Losses.{Losses}
 use Rattle.trial.specs.Words.{run_count, Tells, Narrow, without_of, either_of, stays_to, spared_in}
 
 -- as the code writes it
@@ -60,6 +62,12 @@ unfolding ◌and◌
 has_without b a n =
     has_differ b (bit_and b a) n ∙ ap (λ x. cond (has b n) (not x) x) (has_both b a n)
     ∙ split (has b n) (λ e. rw e) (λ e. rw e)
+
+-- what the code computes, of words of 32 bits
+pub without_lem : (b a : ℕ) → b < 2 ^ 32 → a < 2 ^ 32 → bit_and b (every_group - a) ≡ without_of b a
+without_lem b a p q =
+    let once : bit_and b (bit_and b a) ≡ bit_and b a = sym (and_assoc a b b) ∙ ap (λ x. bit_and x a) (and_self b) in
+    omega (arith, and-not 32 a b q p, and_comm b (every_group - a), and_comm a b, xor_add_and b (bit_and b a), once)
 
 -- what each word tells
 pub tells_picked : (s : Bool) (a : ℕ) (f : ℕ → Bool) → Tells a f → Tells (cond s a 0) (λ r. f r and s)
@@ -106,44 +114,44 @@ pub narrow_both : (a b : ℕ) → Narrow b → Narrow (bit_and a b)
 narrow_both a b low r h = low r (and_r _ _ (sym (has_both a b r) ∙ h))
 
 -- the runs in which a node is there up to a tick
-module _ (lost moment : List ℕ) (group by : ℕ) where
+module _ (losses : Losses) (group by : ℕ) where
   bit_is : (s : Bool) (k r : ℕ) → has (cond s (2 ^ k) 0) r ≡ (s and eqb k r)
   unfolding ◌and◌
   bit_is true k r = has_one k r
   bit_is false k r = has_none r
 
-  spared_is : (n r : ℕ) → has (spared_in lost moment group by n) r ≡ (ltb r n and stays_to lost moment group by r)
+  spared_is : (n r : ℕ) → has (spared_in losses group by n) r ≡ (ltb r n and stays_to losses group by r)
   unfolding spared_in
   spared_is zero r = has_none r ∙ sym (and_unless _ _ (le-ltb r 0 (omega arith)))
   spared_is (suc n) r =
-      has_union _ _ r ∙ ap₂ ◌or◌ (spared_is n r) (bit_is (stays_to lost moment group by n) n r)
+      has_union _ _ r ∙ ap₂ ◌or◌ (spared_is n r) (bit_is (stays_to losses group by n) n r)
       ∙ same_test _ _
       (λ h. or_e _ _ h
       (λ e. and_i _ _ (lt-ltb r (suc n) (omega (arith, ltb-true r n (and_l _ _ e)))) (and_r _ _ e))
       (λ e. let is = eqb-true n r (and_r _ _ e) in
-      and_i _ _ (lt-ltb r (suc n) (omega arith)) (ap (stays_to lost moment group by) (sym is) ∙ and_l _ _ e)))
+      and_i _ _ (lt-ltb r (suc n) (omega arith)) (ap (stays_to losses group by) (sym is) ∙ and_l _ _ e)))
       (λ h. elim (dec_lt r n) [
         | yes p ↦ or_l _ _ (and_i _ _ (lt-ltb r n p) (and_r _ _ h))
         | no p ↦
             let is : n ≡ r = omega (arith, ltb-true r (suc n) (and_l _ _ h)) in
-            or_r _ _ (and_i _ _ (ap (stays_to lost moment group by) is ∙ and_r _ _ h) (eq-eqb n r is))
+            or_r _ _ (and_i _ _ (ap (stays_to losses group by) is ∙ and_r _ _ h) (eq-eqb n r is))
       ])
 
-  pub tells_spared : Tells (spared_in lost moment group by run_count) (stays_to lost moment group by)
+  pub tells_spared : Tells (spared_in losses group by run_count) (stays_to losses group by)
   tells_spared r p = spared_is run_count r ∙ and_if _ _ (lt-ltb r run_count p)
 
-  pub narrow_spared : Narrow (spared_in lost moment group by run_count)
+  pub narrow_spared : Narrow (spared_in losses group by run_count)
   narrow_spared r h = ltb-true r run_count (and_l _ _ (sym (spared_is run_count r) ∙ h))
 
-  pub spared_more : (n : ℕ) (w v : ℕ) → w ≡ spared_in lost moment group by n → v ≡ cond (stays_to lost moment group by n) (2 ^ n) 0
-      → bit_or w v ≡ spared_in lost moment group by (n + 1)
+  pub spared_more : (n : ℕ) (w v : ℕ) → w ≡ spared_in losses group by n → v ≡ cond (stays_to losses group by n) (2 ^ n) 0
+      → bit_or w v ≡ spared_in losses group by (n + 1)
   unfolding spared_in
-  spared_more n w v ew ev = ap₂ bit_or ew ev ∙ ap (spared_in lost moment group by) (sym (add-one n))
+  spared_more n w v ew ev = ap₂ bit_or ew ev ∙ ap (spared_in losses group by) (sym (add-one n))
 
-  pub spared_start : 0 ≡ spared_in lost moment group by 0
+  pub spared_start : 0 ≡ spared_in losses group by 0
   unfolding spared_in
   spared_start = refl
 
-  pub spared_done : (n w : ℕ) → n ≤ run_count → run_count ≤ n → w ≡ spared_in lost moment group by n
-      → w ≡ spared_in lost moment group by run_count
-  spared_done n w most left e = let d : n ≡ run_count = omega arith in e ∙ ap (spared_in lost moment group by) d
+  pub spared_done : (n w : ℕ) → n ≤ run_count → run_count ≤ n → w ≡ spared_in losses group by n
+      → w ≡ spared_in losses group by run_count
+  spared_done n w most left e = let d : n ≡ run_count = omega arith in e ∙ ap (spared_in losses group by) d

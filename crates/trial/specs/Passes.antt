@@ -12,6 +12,7 @@ use Rattle.rules.specs.Rules.{rows}
 use Rattle.rules.specs.Replay.{is_finished, replay}
 use Rattle.rules.specs.Trial.{good_under, loss_before}
 use Rattle.copies.specs.Sets.{every_group}
+use Rattle.trial.specs.declared.words.Losses.{Losses}
 use Rattle.trial.specs.Words.{run_count, without_of, either_of}
 use Rattle.trial.specs.Runs.{loss_at}
 
@@ -36,8 +37,8 @@ unfoldable pub loss_in : List Node → List ℕ → List ℕ → ℕ → ℕ →
 loss_in nodes node finish first n r =
     let j = first + r in cond (ltb j n) (Lost (group_at nodes node j) (get_or finish (2 * j) 0 - 1)) NoLoss
 
-abbrev pub Losses : List Node → List ℕ → List ℕ → ℕ → ℕ → List ℕ → List ℕ → Type 0
-Losses nodes node finish first n lost moment = (r : ℕ) → r < run_count → loss_at lost moment r ≡ loss_in nodes node finish first n r
+abbrev pub LossesFrom : List Node → List ℕ → List ℕ → ℕ → ℕ → Losses → Type 0
+LossesFrom nodes node finish first n x = (r : ℕ) → r < run_count → loss_at x r ≡ loss_in nodes node finish first n r
 
 -- what noting them rests on
 pub record Losable (nodes : List Node) (node finish : List ℕ) (n : ℕ) : Type 0 where

@@ -1,24 +1,29 @@
 -- All runs of a plan at once: a word of runs for each entry of the table of copies, link by link and task by task.
-use Rattle.std.specs.Prelude.{ℕ, ◌+◌, ◌*◌, ◌≤◌, ◌<◌, cond, List, ◌≡◌, leb, eqb, get_or, set, length}
+use Rattle.std.specs.Prelude.{ℕ, ◌+◌, ◌*◌, ◌≤◌, ◌<◌, Bool, cond, List, ◌≡◌, leb, eqb, get_or, set, length}
 use Rattle.std.specs.Int.Bits.{bit_and}
 use Rattle.reader.specs.declared.job.Job.{Job}
 use Rattle.reader.specs.declared.job.Link.{Link}
 use Rattle.reader.specs.declared.job.Node.{Node}
 use Rattle.reader.specs.declared.plan.Plan.{Plan}
 use Rattle.reader.specs.Limits.{max_tasks, max_start}
-use Rattle.reader.specs.Entries.{tasks}
+use Rattle.reader.specs.Tests.{◌implies◌}
+use Rattle.reader.specs.First.{every}
+use Rattle.reader.specs.Entries.{tasks, links, link}
 use Rattle.reader.specs.Sound.{Sound, PlanSound}
 use Rattle.rules.specs.declared.Copy.{Copy}
 use Rattle.rules.specs.declared.Loss.{Loss}
 use Rattle.rules.specs.declared.Loss.TheVariants.{NoLoss, Lost}
-use Rattle.rules.specs.Replay.{is_finished, replay}
-use Rattle.rules.specs.Survival.{Role, primary, backup, state_of}
+use Rattle.rules.specs.Rules.{rows}
+use Rattle.rules.specs.Replay.{is_finished, arrived, replay}
+use Rattle.rules.specs.Survival.{Role, primary, backup, copy_of, state_of}
 use Rattle.rules.specs.Trial.{is_started}
 use Rattle.copies.specs.declared.table.Copies.{Copies}
 use Rattle.copies.specs.declared.arrival.Outgoing.{Outgoing}
 use Rattle.copies.specs.Arrival.{comes, result_at, SumFits, Leaving}
 use Rattle.copies.specs.Table.{copy_count, entry}
 use Rattle.judge.specs.Tasks.{Copied}
+use Rattle.trial.specs.declared.runs.Outcomes.{Outcomes}
+use Rattle.trial.specs.declared.words.Losses.{Losses}
 use Rattle.trial.specs.Words.{run_count, Tells, Narrow, without_of, either_of, spared_in}
 
 -- the runs in which a copy c has one of the results p and b, sent in the runs x and y
@@ -47,24 +52,24 @@ pub record Sendable (leave : List ℕ) (l : Link) : Type 0 where
 
 -- a task whose primary holds the node own from s up to e, and its backup the node other from s' up to e', and that have their inputs in the runs x
 -- and y: in which runs each ends, and starts
-module _ (lost moment : List ℕ) (own other : Node) (ready s e s' e' x y : ℕ) where
+module _ (losses : Losses) (own other : Node) (ready s e s' e' x y : ℕ) where
   abbrev pub may : ℕ
   may = cond (leb ready s) x 0
 
   abbrev pub primary_ends : ℕ
-  primary_ends = bit_and may (spared_in lost moment own.group e run_count)
+  primary_ends = bit_and may (spared_in losses own.group e run_count)
 
   abbrev pub primary_starts : ℕ
-  primary_starts = bit_and may (spared_in lost moment own.group (s + 1) run_count)
+  primary_starts = bit_and may (spared_in losses own.group (s + 1) run_count)
 
   abbrev pub called : ℕ
   called = without_of (cond (leb (e + own.detect) s') y 0) primary_ends
 
   abbrev pub backup_ends : ℕ
-  backup_ends = bit_and called (spared_in lost moment other.group e' run_count)
+  backup_ends = bit_and called (spared_in losses other.group e' run_count)
 
   abbrev pub backup_starts : ℕ
-  backup_starts = bit_and called (spared_in lost moment other.group (s' + 1) run_count)
+  backup_starts = bit_and called (spared_in losses other.group (s' + 1) run_count)
 
 -- its sums fit
 pub record Settleable (start finish : List ℕ) (own : Node) (j : ℕ) : Type 0 where
@@ -80,18 +85,18 @@ of_task f start finish fed j =
     (get_or fed (2 * j + 1) 0)
 
 -- task j is settled
-pub record Settled (start finish fed lost moment : List ℕ) (own other : Node) (ready j : ℕ) (ended sets ended' sets' : List ℕ) : Type 0 where
-  pub ends : ended' ≡ set (set ended (2 * j) (of_task (primary_ends lost moment own other ready) start finish fed j)) (2 * j + 1)
-      (of_task (backup_ends lost moment own other ready) start finish fed j)
-  pub starts : sets' ≡ set (set sets (2 * j) (of_task (primary_starts lost moment own other ready) start finish fed j)) (2 * j + 1)
-      (of_task (backup_starts lost moment own other ready) start finish fed j)
+pub record Settled (start finish fed : List ℕ) (losses : Losses) (own other : Node) (ready j : ℕ) (x x' : Outcomes) : Type 0 where
+  pub ends : x'.ended ≡ set (set x.ended (2 * j) (of_task (primary_ends losses own other ready) start finish fed j)) (2 * j + 1)
+      (of_task (backup_ends losses own other ready) start finish fed j)
+  pub starts : x'.started ≡ set (set x.started (2 * j) (of_task (primary_starts losses own other ready) start finish fed j)) (2 * j + 1)
+      (of_task (backup_starts losses own other ready) start finish fed j)
 
 -- the loss of run r; number 16 is no group's
 abbrev pub no_group : ℕ
 no_group = 16
 
-unfoldable pub loss_at : List ℕ → List ℕ → ℕ → Loss
-loss_at lost moment r = cond (eqb (get_or lost r 0) no_group) NoLoss (Lost (get_or lost r 0) (get_or moment r 0))
+unfoldable pub loss_at : Losses → ℕ → Loss
+loss_at x r = cond (eqb (get_or x.lost r 0) no_group) NoLoss (Lost (get_or x.lost r 0) (get_or x.moment r 0))
 
 -- the table has the copies of a plan that reads well, and when their results leave
 pub record Placed (job : Job) (cs : Copies) (leave : List ℕ) : Type 0 where
@@ -107,9 +112,23 @@ at j primary = 2 * j
 at j backup = 2 * j + 1
 
 -- of the first n tasks the words tell in which runs each copy ends, and in which it starts
-pub record Told (job : Job) (plan : Plan) (lost moment : List ℕ) (n : ℕ) (ended sets : List ℕ) : Type 0 where
-  pub ended_size : length ended ≡ copy_count
-  pub sets_size : length sets ≡ copy_count
-  pub ends : (j : ℕ) (a : Role) → j < n → Tells (get_or ended (at j a) 0) (λ r. is_finished (state_of a (replay job plan (loss_at lost moment r) j)))
-  pub starts : (j : ℕ) (a : Role) → j < n → Tells (get_or sets (at j a) 0) (λ r. is_started (state_of a (replay job plan (loss_at lost moment r) j)))
-  pub narrow : (j : ℕ) (a : Role) → j < n → Narrow (get_or sets (at j a) 0)
+pub record Told (job : Job) (plan : Plan) (losses : Losses) (n : ℕ) (x : Outcomes) : Type 0 where
+  pub ended_size : length x.ended ≡ copy_count
+  pub started_size : length x.started ≡ copy_count
+  pub ends : (j : ℕ) (a : Role) → j < n → Tells (get_or x.ended (at j a) 0) (λ r. is_finished (state_of a (replay job plan (loss_at losses r) j)))
+  pub starts : (j : ℕ) (a : Role) → j < n → Tells (get_or x.started (at j a) 0) (λ r. is_started (state_of a (replay job plan (loss_at losses r) j)))
+  pub narrow : (j : ℕ) (a : Role) → j < n → Narrow (get_or x.started (at j a) 0)
+
+-- link m brings its input to copy a of task i in run r, if it leads there
+abbrev pub brings : Job → Plan → Losses → ℕ → Role → ℕ → ℕ → Bool
+brings job plan losses i a r m =
+    let l = link job m in
+    eqb l.to i implies arrived job l (rows job plan l.from) (replay job plan (loss_at losses r) l.from) (copy_of a (rows job plan i))
+
+-- what is known after j tasks and k links
+pub record Upto (job : Job) (plan : Plan) (losses : Losses) (j k : ℕ) (feds : List ℕ) (x : Outcomes) : Type 0 where
+  pub within : j ≤ tasks job
+  pub links_within : k ≤ links job
+  pub size : length feds ≡ copy_count
+  pub told : Told job plan losses j x
+  pub inputs : (i : ℕ) (a : Role) → i < tasks job → Tells (get_or feds (at i a) 0) (λ r. every k (brings job plan losses i a r))

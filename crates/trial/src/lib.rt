@@ -48,16 +48,16 @@ pub fn trial_plan(job: Job, plan: Plan) -> bool
         &mut sets,
         &mut leave,
     );
-    if !pass(job, &node, &start, &finish, &leave, n, true) {
+    if !pass(&job, &node, &start, &finish, &leave, n, true) {
         return false;
     }
-    if !pass(job, &node, &start, &finish, &leave, 0, false) {
+    if !pass(&job, &node, &start, &finish, &leave, 0, false) {
         return false;
     }
     if n <= RUNS {
         return true;
     }
-    pass(job, &node, &start, &finish, &leave, RUNS, false)
+    pass(&job, &node, &start, &finish, &leave, RUNS, false)
 }
 
 // Tries two files: 0 is yes.

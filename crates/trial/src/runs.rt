@@ -1,15 +1,22 @@
 // All runs of a plan at once: in which of them each copy ends, and in which it starts.
-ghost use Rattle.std.specs.Prelude.{◌≡◌, [], length};
-ghost use Rattle.reader.specs.Entries.{tasks};
-ghost use Rattle.copies.specs.Table.{copy_count, table, entry};
-ghost use Rattle.trial.specs.Runs.{fed_of, fed_with, Sendable, Settleable, Settled, Placed, Told};
+ghost use Rattle.std.specs.Prelude.{◌≡◌, ◌≤◌, ◌<◌, []};
+ghost use Rattle.reader.specs.Entries.{tasks, links, link};
+ghost use Rattle.copies.specs.Table.{table};
+ghost use Rattle.trial.specs.Runs.{fed_of, fed_with, Sendable, Settleable, Settled, Placed, Told, Upto};
 
-use crate::words::{RUNS, either, spared, without};
+use crate::words::{Losses, either, spared, without};
 use copies::arrival::{Outgoing, in_time, pick, result_at};
 use copies::sets::ALL;
 use copies::table::{Copies, copy_at};
 use reader::job::{Job, Link, Node};
 use rules::Copy;
+
+// Of each copy the runs in which it ends, and those in which it starts.
+#[derive(Clone, Copy)]
+pub struct Outcomes {
+    pub ended: [u32; Copies::COUNT],
+    pub started: [u32; Copies::COUNT],
+}
 
 // The runs in which a copy has one of two results, of copies that end in these runs.
 fn fed_by(p: Outgoing, b: Outgoing, x: u32, y: u32, c: Copy) -> u32
@@ -24,22 +31,50 @@ fn send<'c>(
     start: &'c [u32; Copies::COUNT],
     finish: &'c [u32; Copies::COUNT],
     leave: &'c [u32; Copies::COUNT],
-    ended: &'c [u32; Copies::COUNT],
+    outcomes: &'c Outcomes,
     l: Link,
     fed: &mut [u32; Copies::COUNT],
 )
-    requires { Sendable leave.now l × (length fed.old ≡ copy_count) }
+    requires { Sendable leave.now l }
     ensures { fed.new ≡ fed_with (table node.now start.now finish.now []) leave.now l
-        ended.now fed.old }
+        outcomes.now.ended fed.old }
 {
     let i = 2 * (l.from as usize);
     let t = 2 * (l.to as usize);
     let p = result_at(node, finish, leave, l.delay, i);
     let b = result_at(node, finish, leave, l.delay, i + 1);
-    let x = ended[i];
-    let y = ended[i + 1];
+    let x = outcomes.ended[i];
+    let y = outcomes.ended[i + 1];
     fed[t] = fed[t] & fed_by(p, b, x, y, copy_at(node, start, finish, t));
     fed[t + 1] = fed[t + 1] & fed_by(p, b, x, y, copy_at(node, start, finish, t + 1));
+}
+
+// Sends by the links of the tasks before j, from link k on, and says which link is next. Links rise by from.
+fn send_before<'c>(
+    job: &'c Job,
+    node: &'c [u32; Copies::COUNT],
+    start: &'c [u32; Copies::COUNT],
+    finish: &'c [u32; Copies::COUNT],
+    leave: &'c [u32; Copies::COUNT],
+    outcomes: &'c Outcomes,
+    j: usize,
+    k: usize,
+    fed: &mut [u32; Copies::COUNT],
+) -> usize
+    requires { Placed job.now (table node.now start.now finish.now []) leave.now × (k ≤ links job.now) }
+    ensures upto { (w : Placed job.now (table node.now start.now finish.now []) leave.now) (losses : Losses)
+        → Upto job.now w.plan losses j k fed.old outcomes.now → Upto job.now w.plan losses j result fed.new outcomes.now }
+    ensures left { result < links job.now → j ≤ (link job.now result).from }
+{
+    let m = job.link_count as usize;
+    for i in k..m {
+        let l = job.links[i];
+        if j <= l.from as usize {
+            return i;
+        }
+        send(node, start, finish, leave, outcomes, l, fed);
+    }
+    m
 }
 
 // In which runs the copies of task j end and start, of which it is known in which they have their inputs. A backup is called on where its primary
@@ -48,70 +83,66 @@ fn settle<'c>(
     start: &'c [u32; Copies::COUNT],
     finish: &'c [u32; Copies::COUNT],
     fed: &'c [u32; Copies::COUNT],
-    lost: &'c [u32; RUNS],
-    moment: &'c [u32; RUNS],
+    losses: &'c Losses,
     own: Node,
     other: Node,
     ready: u32,
     j: usize,
-    ended: &mut [u32; Copies::COUNT],
-    sets: &mut [u32; Copies::COUNT],
+    outcomes: &mut Outcomes,
 )
     requires { Settleable start.now finish.now own j }
-    ensures { Settled start.now finish.now fed.now lost.now moment.now
-        own other ready j ended.old sets.old ended.new sets.new }
+    ensures { Settled start.now finish.now fed.now losses.now
+        own other ready j outcomes.old outcomes.new }
 {
     let p = 2 * j;
     let b = 2 * j + 1;
     let may = pick(ready <= start[p], fed[p], 0);
-    let ends = may & spared(lost, moment, own.group, finish[p]);
-    ended[p] = ends;
-    sets[p] = may & spared(lost, moment, own.group, start[p] + 1);
+    let ends = may & spared(losses, own.group, finish[p]);
+    outcomes.ended[p] = ends;
+    outcomes.started[p] = may & spared(losses, own.group, start[p] + 1);
     let called = without(pick(finish[p] + own.detect <= start[b], fed[b], 0), ends);
-    ended[b] = called & spared(lost, moment, other.group, finish[b]);
-    sets[b] = called & spared(lost, moment, other.group, start[b] + 1);
+    outcomes.ended[b] = called & spared(losses, other.group, finish[b]);
+    outcomes.started[b] = called & spared(losses, other.group, start[b] + 1);
 }
 
-// Tasks go by number, and a task's results go out by its links before the next task, as replay has it. Links rise by from, so each is looked at once.
+// Tasks go by number, and a task's results go out by its links before the next task, as replay has it.
 pub fn run_all<'c>(
-    job: Job,
+    job: &'c Job,
     node: &'c [u32; Copies::COUNT],
     start: &'c [u32; Copies::COUNT],
     finish: &'c [u32; Copies::COUNT],
     leave: &'c [u32; Copies::COUNT],
-    lost: &'c [u32; RUNS],
-    moment: &'c [u32; RUNS],
-    ended: &mut [u32; Copies::COUNT],
-    sets: &mut [u32; Copies::COUNT],
-)
-    requires { Placed job (table node.now start.now finish.now []) leave.now × (length ended.old ≡ copy_count)
-        × (length sets.old ≡ copy_count) }
-    ensures { (w : Placed job (table node.now start.now finish.now []) leave.now)
-        → Told job w.plan lost.now moment.now (tasks job) ended.new sets.new }
+    losses: &'c Losses,
+) -> Outcomes
+    requires { Placed job.now (table node.now start.now finish.now []) leave.now }
+    ensures { (w : Placed job.now (table node.now start.now finish.now []) leave.now)
+        → Told job.now w.plan losses.now (tasks job.now) result }
 {
+    let mut outcomes = Outcomes {
+        ended: [0; Copies::COUNT],
+        started: [0; Copies::COUNT],
+    };
     let mut fed = [ALL; Copies::COUNT];
     let n = job.task_count as usize;
-    let m = job.link_count as usize;
     let mut k: usize = 0;
-    let mut j: usize = 0;
-    while j < n {
-        if k < m {
-            let l = job.links[k];
-            let i = l.from as usize;
-            if i < j {
-                send(node, start, finish, leave, ended, l, &mut fed);
-                k += 1;
-                continue;
-            }
-        }
+    for j in 0..n {
+        k = send_before(job, node, start, finish, leave, &outcomes, j, k, &mut fed);
         let task = job.tasks[j];
         let p = node[2 * j] as usize;
         let own = job.nodes[p];
         let b = node[2 * j + 1] as usize;
         let other = job.nodes[b];
         settle(
-            start, finish, &fed, lost, moment, own, other, task.ready, j, ended, sets,
+            start,
+            finish,
+            &fed,
+            losses,
+            own,
+            other,
+            task.ready,
+            j,
+            &mut outcomes,
         );
-        j += 1;
     }
+    outcomes
 }

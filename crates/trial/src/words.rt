@@ -9,11 +9,19 @@ use copies::sets::bit_of;
 // How many.
 pub const RUNS: usize = 32;
 
+// What each run loses: run r the group lost[r], at moment[r]. A run without loss has a number that is no group's, and no Option: these numbers are
+// compared in the hot loop, all 32 at once.
+#[derive(Clone, Copy)]
+pub struct Losses {
+    pub lost: [u32; RUNS],
+    pub moment: [u32; RUNS],
+}
+
 // The runs of b that are not in a.
 pub fn without(b: u32, a: u32) -> u32
     ensures { result ≡ without_of b a }
 {
-    b ^ (b & a)
+    b & !a
 }
 
 // The runs of a, if the first test holds, with those of b, if the second does.
@@ -30,16 +38,18 @@ fn stays(lost: u32, moment: u32, group: u32, by: u32) -> bool
     (lost != group) | (by <= moment)
 }
 
-// The runs in which it is: in run r the group lost[r] is lost at moment[r].
-pub fn spared<'c>(lost: &'c [u32; RUNS], moment: &'c [u32; RUNS], group: u32, by: u32) -> u32
-    ensures { result ≡ spared_in lost.now moment.now group by run_count }
+// The runs in which it is.
+pub fn spared(losses: &Losses, group: u32, by: u32) -> u32
+    ensures { result ≡ spared_in losses.now group by run_count }
 {
     let mut runs: u32 = 0;
-    let mut r: u32 = 0;
-    while r < 32 {
-        let i = r as usize;
-        runs = runs | pick(stays(lost[i], moment[i], group, by), bit_of(r), 0);
-        r += 1;
+    for r in 0..RUNS {
+        runs = runs
+            | pick(
+                stays(losses.lost[r], losses.moment[r], group, by),
+                bit_of(r as u32),
+                0,
+            );
     }
     runs
 }
