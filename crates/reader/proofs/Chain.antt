@@ -1,14 +1,10 @@
--- The laws by which every chain of `let .. else` is proved: each step passes, or stops with its refusal.
-use mathlib.Core.Path.{◌≡◌, sym, ap, ◌∙◌}
+-- The laws by which every chain of steps that may refuse is proved: each step passes, or stops with its refusal.
+use mathlib.Core.Path.{◌≡◌, sym, ap, ◌∙◌, subst}
 use mathlib.Core.Option.{Option, none, some}
+use Rattle.std.specs.Prelude.{Result, Ok, Err, IsErrAnd}
 use Rattle.reader.specs.declared.refusal.Refusal.{Refusal}
-use Rattle.reader.specs.declared.refusal.Answer.{Answer}
-use Rattle.reader.specs.declared.refusal.Answer.TheVariants.{Done, Refused}
-use Rattle.reader.specs.declared.number.Number.{Number}
-use Rattle.reader.specs.declared.number.Number.TheVariants.{Fault}
 use Rattle.reader.specs.First.{◌or_else◌}
-use Rattle.reader.specs.Number.{fault_of}
-use Rattle.reader.specs.Refusals.{answered}
+use Rattle.reader.specs.Refusals.{resulted, answered, answer_of}
 use Rattle.reader.specs.Reads.{Reads}
 use Rattle.reader.proofs.TestLaws.{never}
 use Rattle.reader.proofs.RefusalLaws.{answered_done, answered_refused}
@@ -23,36 +19,38 @@ pub stop : {a : Option Refusal} {r : Refusal} (b : Option Refusal) → a ≡ som
 unfolding ◌or_else◌
 stop b e = rw e
 
--- what is promised where a step stops, or the last one is done
-module _ {o : Option Refusal} {a : Answer} {A : Type 0} where
-  pub stopped : {r : Refusal} → o ≡ some r → a ≡ Refused r → Reads o a A
-  stopped {r} e q = record { answer_is = q ∙ sym (ap answered e); value_is = λ n. never (cc) }
+-- what a `?` hands on, where the whole has that fault
+pub handed : {A : Type 0} {o : Option Refusal} {e : Refusal} (v : A) (w : Result A Refusal) → IsErrAnd w (λ r. r ≡ e) → o ≡ some e → w ≡ resulted o v
+handed v (Ok x) h q = absurd h
+handed v (Err r) h q = ap Err h ∙ sym (ap (λ o. resulted o v) q)
 
-  pub finished : o ≡ none → a ≡ Done → A → Reads o a A
-  finished e q v = record { answer_is = q ∙ sym (ap answered e); value_is = λ n. v }
+-- a refusal and a value, as what a fault gives
+module _ {A : Type 0} {o : Option Refusal} (v : A) where
+  pub refused : {e : Refusal} → o ≡ some e → Err e ≡ resulted o v
+  refused q = sym (ap (λ o. resulted o v) q)
 
--- a number's fault, handed on
-pub handed : {n : Number} {a : Answer} {r : Refusal} → a ≡ answered (fault_of n) → n ≡ Fault r → a ≡ Refused r
-handed {n} {a} {r} e q = e ∙ ap (λ x. answered (fault_of x)) q
+  pub given : {a : A} → o ≡ none → a ≡ v → Ok a ≡ resulted o v
+  given q h = ap Ok h ∙ sym (ap (λ o. resulted o v) q)
 
--- an answer tells its fault
-module _ {o : Option Refusal} {a : Answer} {A : Type 0} (reads : Reads o a A) where
-  pub reads_none : a ≡ Done → o ≡ none
-  reads_none q = (answered_done o).0 (sym reads.answer_is ∙ q)
+-- what is promised of a part where a step stops, by `return` or by `?`, and where the last one is done
+module _ {A : Type 0} {o : Option Refusal} {good : A → Type 0} where
+  pub broken : {e : Refusal} → o ≡ some e → Reads o (Err e) good
+  broken q = record { answer_is = sym (ap answered q); value_is = λ a h. never (cc) }
 
-  pub reads_some : {r : Refusal} → a ≡ Refused r → o ≡ some r
-  reads_some {r} q = (answered_refused o r).0 (sym reads.answer_is ∙ q)
+  pub stopped : {e : Refusal} (w : Result A Refusal) → IsErrAnd w (λ r. r ≡ e) → o ≡ some e → Reads o w good
+  stopped (Ok x) h q = absurd h
+  stopped (Err r) h q = broken (q ∙ ap some (sym h))
 
-  pub reads_value : a ≡ Done → A
-  reads_value q = reads.value_is (reads_none q)
+  pub finished : {a : A} → o ≡ none → good a → Reads o (Ok a) good
+  finished {a} q g = record { answer_is = sym (ap answered q); value_is = λ b h. let e : a ≡ b = cc in subst good e g }
 
--- the same answer, with less said of the value
-pub valued : {o : Option Refusal} {a : Answer} {A B : Type 0} → (A → B) → Reads o a A → Reads o a B
-valued f reads = record { answer_is = reads.answer_is; value_is = λ e. f (reads.value_is e) }
+-- what a part's result says in either arm
+module _ {A : Type 0} {o : Option Refusal} {w : Result A Refusal} {good : A → Type 0} (reads : Reads o w good) where
+  pub reads_none : {a : A} → w ≡ Ok a → o ≡ none
+  reads_none q = (answered_done o).0 (sym reads.answer_is ∙ ap answer_of q)
 
--- what is promised behind a step that passed
-pub behind : {a b : Option Refusal} {w : Answer} {A B : Type 0} → a ≡ none → (A → B) → Reads b w A → Reads (a or_else b) w B
-behind {a} {b} {w} {A} {B} e f reads = record {
-  answer_is = reads.answer_is ∙ sym (ap answered (pass b e));
-  value_is = λ q. f (reads.value_is (sym (pass b e) ∙ q));
-}
+  pub reads_some : {e : Refusal} → w ≡ Err e → o ≡ some e
+  reads_some {e} q = (answered_refused o e).0 (sym reads.answer_is ∙ ap answer_of q)
+
+  pub reads_value : {a : A} → w ≡ Ok a → good a
+  reads_value q = reads.value_is _ q

@@ -4,18 +4,14 @@ use native.Mathlib.Omega.{arith}
 use mathlib.Core.Path.{◌≡◌, refl, sym, ap, ap₂, ◌∙◌, subst}
 use mathlib.Core.List.{List, [], ◌∷◌}
 use mathlib.Core.Option.{none, some}
-use Rattle.reader.specs.declared.job_file.Run.{Run}
 use Rattle.reader.specs.declared.refusal.Refusal.{Refusal}
-use Rattle.reader.specs.declared.refusal.Answer.{Answer}
-use Rattle.reader.specs.declared.refusal.Answer.TheVariants.{Done, Refused}
-use Rattle.reader.specs.declared.number.Number.{Number}
-use Rattle.reader.specs.declared.number.Number.TheVariants.{Is, Fault}
-use Rattle.reader.specs.Number.{number_at, value_fault, numbered}
+use Rattle.std.specs.Prelude.{Result, Ok, Err}
+use Rattle.reader.specs.Refusals.{resulted}
+use Rattle.reader.specs.Number.{number_at, value_fault}
 use Rattle.reader.specs.Fields.{Field, node_fields, task_fields, node_from, task_from, width_if, fault_if, value_if, has, width, fields_fault, fields_at}
-use Rattle.reader.specs.Reads.{Reads}
 use Rattle.reader.specs.JobFile.{node_width, task_width, node_at, run_fault, run_at, task_fault, task_at}
 use Rattle.reader.proofs.NumberLaws.{is_none, is_value, is_fault}
-use Rattle.reader.proofs.Chain.{pass, stop, stopped, finished, behind}
+use Rattle.reader.proofs.Chain.{pass, stop}
 
 -- fields that were read without fault: their values, and the offset behind them
 pub record FieldsRead (v : ℕ) (s : List ℕ) (at : ℕ) (fs : List Field) (xs : List ℕ) (end : ℕ) : Type 0 where
@@ -31,17 +27,13 @@ no_fields = record { fault = refl; values = refl; end_is = omega arith }
 pub record Stops (v : ℕ) (s : List ℕ) (at : ℕ) (fs : List Field) (r : Refusal) : Type 0 where
   pub fault : fields_fault v s at fs ≡ some r
 
-pub fields_stopped : {v : ℕ} {s : List ℕ} {at : ℕ} {fs : List Field} {r : Refusal} {a : Answer} {A : Type 0} →
-    Stops v s at fs r → a ≡ Refused r → Reads (fields_fault v s at fs) a A
-fields_stopped h told = stopped h.fault told
-
-module _ {v : ℕ} {s : List ℕ} {at : ℕ} {f : Field} {fs : List Field} {y : Number}
-    (ey : y ≡ numbered (fault_if (has v f) (value_fault s at f.low f.high)) (value_if (has v f) (number_at s at) f.lacking)) where
-  pub stops_at : {r : Refusal} → y ≡ Fault r → Stops v s at (f ∷ fs) r
+module _ {v : ℕ} {s : List ℕ} {at : ℕ} {f : Field} {fs : List Field} {y : Result ℕ Refusal}
+    (ey : y ≡ resulted (fault_if (has v f) (value_fault s at f.low f.high)) (value_if (has v f) (number_at s at) f.lacking)) where
+  pub stops_at : {r : Refusal} → y ≡ Err r → Stops v s at (f ∷ fs) r
   unfolding fields_fault
   stops_at q = record { fault = stop _ (is_fault y _ _ ey q) }
 
-  module _ {x w : ℕ} (q : y ≡ Is x) (ew : w ≡ width_if (has v f)) where
+  module _ {x w : ℕ} (q : y ≡ Ok x) (ew : w ≡ width_if (has v f)) where
     pub stops_behind : {r : Refusal} → Stops v s (at + w) fs r → Stops v s at (f ∷ fs) r
     unfolding fields_fault
     stops_behind h = record { fault = pass _ (is_none y _ _ ey q) ∙ (ap (λ w. fields_fault v s (at + w) fs) (sym ew) ∙ h.fault) }
@@ -56,19 +48,24 @@ module _ {v : ℕ} {s : List ℕ} {at : ℕ} {f : Field} {fs : List Field} {y : 
 
 -- a node, and a task, whose run times stand behind its fields
 pub node_done : {v : ℕ} {s : List ℕ} {at end : ℕ} (i : ℕ) (xs : List ℕ) → FieldsRead v s at (node_fields i) xs end →
-    Reads (fields_fault v s at (node_fields i)) Done ((node_from xs ≡ node_at v s i at) × (end ≡ at + node_width v))
+    (node_from xs ≡ node_at v s i at) × (end ≡ at + node_width v)
 unfolding node_at node_width node_fields width
-node_done i xs r = finished r.fault refl (ap node_from r.values, r.end_is)
+node_done i xs r = (ap node_from r.values, r.end_is)
 
 module _ {v : ℕ} {s : List ℕ} {at : ℕ} (p : ℕ) where
-  pub task_stopped : {r : Refusal} {a : Answer} {A : Type 0} → Stops v s at task_fields r → a ≡ Refused r → Reads (task_fault v s at p) a A
+  pub task_stopped : {r : Refusal} → Stops v s at task_fields r → task_fault v s at p ≡ some r
   unfolding task_fault
-  task_stopped h told = stopped (stop _ h.fault) told
+  task_stopped h = stop _ h.fault
 
-  pub task_done : {end : ℕ} (xs : List ℕ) → FieldsRead v s at task_fields xs end →
-      (run : Run) → Reads (run_fault s end p) run.answer (run.times ≡ run_at s end p) →
-      Reads (task_fault v s at p) run.answer ((task_from xs run.times ≡ task_at v s at p) × (end + 4 * p ≡ at + task_width v p))
-  unfolding task_fault task_at task_width
-  task_done xs r run h =
-      let run_read = subst (λ k. Reads (run_fault s k p) run.answer (run.times ≡ run_at s k p)) r.end_is h in
-      behind r.fault (λ e. (ap₂ task_from r.values e, omega (arith, r.end_is))) run_read
+  module _ {end : ℕ} (xs : List ℕ) (r : FieldsRead v s at task_fields xs end) where
+    pub run_stopped : {e : Refusal} → run_fault s end p ≡ some e → task_fault v s at p ≡ some e
+    unfolding task_fault
+    run_stopped {e} h = pass _ r.fault ∙ subst (λ k. run_fault s k p ≡ some e) r.end_is h
+
+    pub run_fine : run_fault s end p ≡ none → task_fault v s at p ≡ none
+    unfolding task_fault
+    run_fine h = pass _ r.fault ∙ subst (λ k. run_fault s k p ≡ none) r.end_is h
+
+    pub task_done : {run : List ℕ} → run ≡ run_at s end p → (task_from xs run ≡ task_at v s at p) × (end + 4 * p ≡ at + task_width v p)
+    unfolding task_at task_width
+    task_done {run} h = (ap₂ task_from r.values (subst (λ k. run ≡ run_at s k p) r.end_is h), omega (arith, r.end_is))

@@ -2,184 +2,116 @@
 use Prim.Native.Nat.{ℕ, ◌+◌, ◌-◌, ◌*◌, ◌≤◌, ◌<◌}
 use mathlib.Core.Path.{◌≡◌, sym, ap, ap₂, ◌∙◌, subst}
 use mathlib.Core.List.{List}
-use mathlib.Core.Option.{some}
+use mathlib.Core.Option.{none, some}
 use lib.ListN.{length, take, drop, length-drop}
 use lib.Seq.{take_all}
 use native.Mathlib.Omega.{arith}
 use borrow.Author.Tests.{lt-leb}
 use Rattle.reader.specs.declared.job.Job.{Job}
-use Rattle.reader.specs.declared.job_file.Nodes.{Nodes}
-use Rattle.reader.specs.declared.job_file.Tasks.{Tasks}
-use Rattle.reader.specs.declared.job_file.Links.{Links}
-use Rattle.reader.specs.declared.job_file.JobRead.{JobRead}
+use Rattle.reader.specs.declared.job.Node.{Node}
+use Rattle.reader.specs.declared.job.Task.{Task}
+use Rattle.reader.specs.declared.job.Link.{Link}
 use Rattle.reader.specs.declared.refusal.Refusal.{Refusal}
 use Rattle.reader.specs.declared.refusal.Refusal.TheVariants.{Tail}
-use Rattle.reader.specs.declared.refusal.Answer.{Answer}
-use Rattle.reader.specs.declared.refusal.Answer.TheVariants.{Done, Refused}
-use Rattle.reader.specs.declared.number.Number.{Number}
-use Rattle.reader.specs.declared.number.Number.TheVariants.{Is, Fault}
+use Rattle.std.specs.Prelude.{Ok, Err}
 use Rattle.reader.specs.First.{unless}
 use Rattle.reader.specs.Limits.{newest_version, min_tasks}
-use Rattle.reader.specs.Entries.{empty_job}
-use Rattle.reader.specs.Number.{number_at, version_fault, numbered}
-use Rattle.reader.specs.Reads.{Reads}
+use Rattle.reader.specs.Number.{number_at, version_fault}
+use Rattle.reader.specs.Refusals.{resulted}
 use Rattle.reader.specs.JobFile.{job_version, task_width, node_section, task_section, link_section, job_length, node_count, task_count, link_count, nodes_fault}
 use Rattle.reader.specs.JobFile.{nodes_at, tasks_fault, tasks_at, links_fault, links_at, tail_fault, job_fault, job_at, read_job}
-use Rattle.reader.proofs.NumberLaws.{is_none, is_value, is_fault}
-use Rattle.reader.proofs.Chain.{pass, stop, reads_none, reads_some, reads_value}
+use Rattle.reader.proofs.Chain.{pass, stop}
 use Rattle.reader.proofs.Accepted.{nodes_good, tasks_good}
 use Rattle.reader.proofs.Faultless.{good_tail}
 
 -- the part of a list from an offset on, as the code makes it
-rest_part : (s : List ℕ) (a : ℕ) → drop a s ≡ take (length s - a) (drop a s)
+pub rest_part : (s : List ℕ) (a : ℕ) → drop a s ≡ take (length s - a) (drop a s)
 rest_part s a =
     let h : length (drop a s) ≤ length s - a = omega (arith, length-drop a s) in
     sym (take_all _ _ h)
-
-pub job_refused : (s : List ℕ) (x : JobRead) {a : Answer} {r : Refusal}
-    → (x.answer ≡ a) × (x.job ≡ empty_job) → a ≡ Refused r → job_fault s ≡ some r → x ≡ read_job s
-unfolding read_job
-job_refused s x {a} {r} held told bad =
-    rw bad (ap₂ {C = JobRead} (λ w j. record { answer = w; job = j }) (held.0 ∙ told) held.1)
 
 pub tail_some : (s : List ℕ) (e : ℕ) → e < length s → tail_fault s e ≡ some (Tail e)
 unfolding tail_fault unless
 tail_some s e h = rw (lt-leb (length s) e h)
 
-module _ (s : List ℕ) (v : Number) (ev : v ≡ numbered (version_fault newest_version s) (number_at s 0)) where
-  pub bad_version : {r : Refusal} → v ≡ Fault r → job_fault s ≡ some r
+-- each section behind those that passed: x is the version, p, n and m are the counts
+module _ (s : List ℕ) where
+  pub bad_version : {r : Refusal} → version_fault newest_version s ≡ some r → job_fault s ≡ some r
   unfolding job_fault
-  bad_version q = stop _ (is_fault v _ _ ev q)
+  bad_version q = stop _ q
 
-  module _ (x : ℕ) (qv : v ≡ Is x) (ns : Nodes)
-      (en : Reads (nodes_fault x s) ns.answer
-      ((ns.count ≡ number_at s node_section) × (ns.list ≡ nodes_at x s ns.count) × (ns.end ≡ task_section x ns.count))) where
-    version_is : x ≡ job_version s
-    version_is = is_value v _ _ ev qv
-
-    nodes_read : Reads (nodes_fault (job_version s) s) ns.answer
-        ((ns.count ≡ node_count s) × (ns.list ≡ nodes_at (job_version s) s ns.count) × (ns.end ≡ task_section (job_version s) ns.count))
-    nodes_read =
-        subst
-        (λ x. Reads (nodes_fault x s) ns.answer
-        ((ns.count ≡ node_count s) × (ns.list ≡ nodes_at x s ns.count) × (ns.end ≡ task_section x ns.count)))
-        version_is en
-
-    pub bad_nodes : {r : Refusal} → ns.answer ≡ Refused r → job_fault s ≡ some r
+  module _ (x : ℕ) (fv : version_fault newest_version s ≡ none) (ex : x ≡ job_version s) where
+    pub bad_nodes : {r : Refusal} → nodes_fault x s ≡ some r → job_fault s ≡ some r
     unfolding job_fault
-    bad_nodes q = pass _ (is_none v _ _ ev qv) ∙ stop _ (reads_some nodes_read q)
+    bad_nodes {r} q = pass _ fv ∙ stop _ (subst (λ x. nodes_fault x s ≡ some r) ex q)
 
-    module _ (qn : ns.answer ≡ Done) where
-      node_count_is : ns.count ≡ node_count s
-      node_count_is = (reads_value nodes_read qn).0
+    module _ (p start : ℕ) (ns : List Node) (fn : nodes_fault x s ≡ none) (ep : p ≡ node_count s) (en : ns ≡ nodes_at x s p)
+        (es : start ≡ task_section x p) where
+      nodes_fine : nodes_fault (job_version s) s ≡ none
+      nodes_fine = subst (λ x. nodes_fault x s ≡ none) ex fn
 
-      nodes_end : ns.end ≡ task_section (job_version s) (node_count s)
-      nodes_end = (reads_value nodes_read qn).2 ∙ ap (λ p. task_section (job_version s) p) node_count_is
+      start_is : start ≡ task_section (job_version s) (node_count s)
+      start_is = es ∙ ap₂ task_section ex ep
 
-      pub node_room : ns.end ≤ length s
-      node_room = omega (arith, (nodes_good (job_version s) s (reads_none nodes_read qn)).room, nodes_end)
+      pub node_room : start ≤ length s
+      node_room = omega (arith, (nodes_good (job_version s) s nodes_fine).room, start_is)
 
-      -- the tasks are read from the part of the file behind the nodes
-      module _ (ts : Tasks)
-          (et : (file : List ℕ) → drop ns.end file ≡ take (length s - ns.end) (drop ns.end s)
-          → Reads (tasks_fault x file ns.end ns.count) ts.answer
-          ((ts.count ≡ number_at file ns.end) × (ts.list ≡ tasks_at x file ns.end ns.count ts.count)
-          × (ts.end ≡ ns.end + 4 + ts.count * task_width x ns.count))) where
-        abbrev Behind : ℕ → ℕ → ℕ → Type 0
-        Behind x at p =
-            Reads (tasks_fault x s at p) ts.answer
-            ((ts.count ≡ number_at s at) × (ts.list ≡ tasks_at x s at p ts.count) × (ts.end ≡ at + 4 + ts.count * task_width x p))
+      -- the faults of the tasks as the code has them are those of the file
+      tasks_same : tasks_fault x s start p ≡ tasks_fault (job_version s) s (task_section (job_version s) (node_count s)) (node_count s)
+      tasks_same = cc (start_is)
 
-        tasks_read : Behind (job_version s) (task_section (job_version s) (node_count s)) (node_count s)
-        tasks_read =
-            subst (λ x. Behind x (task_section (job_version s) (node_count s)) (node_count s)) version_is
-            (subst (λ at. Behind x at (node_count s)) nodes_end
-            (subst (λ p. Behind x ns.end p) node_count_is (et s (rest_part s ns.end))))
+      pub bad_tasks : {r : Refusal} → tasks_fault x s start p ≡ some r → job_fault s ≡ some r
+      unfolding job_fault
+      bad_tasks q = pass _ fv ∙ pass _ nodes_fine ∙ stop _ (sym tasks_same ∙ q)
 
-        pub bad_tasks : {r : Refusal} → ts.answer ≡ Refused r → job_fault s ≡ some r
+      module _ (n behind : ℕ) (ts : List Task) (ft : tasks_fault x s start p ≡ none) (eq : n ≡ number_at s start) (et : ts ≡ tasks_at x s start p n)
+          (eb : behind ≡ start + 4 + n * task_width x p) where
+        n_is : n ≡ task_count s
+        n_is = eq ∙ ap (number_at s) start_is
+
+        behind_is : behind ≡ link_section (job_version s) (node_count s) (task_count s)
+        behind_is = eb ∙ cc (start_is, n_is)
+
+        pub task_least : min_tasks ≤ n
+        task_least = omega (arith, (tasks_good (job_version s) s _ _ (sym tasks_same ∙ ft)).count.least, n_is)
+
+        links_same : links_fault s behind n ≡ links_fault s (link_section (job_version s) (node_count s) (task_count s)) (task_count s)
+        links_same = ap₂ (links_fault s) behind_is n_is
+
+        pub bad_links : {r : Refusal} → links_fault s behind n ≡ some r → job_fault s ≡ some r
         unfolding job_fault
-        bad_tasks q = pass _ (is_none v _ _ ev qv) ∙ pass _ (reads_none nodes_read qn) ∙ stop _ (reads_some tasks_read q)
+        bad_links q = pass _ fv ∙ pass _ nodes_fine ∙ pass _ (sym tasks_same ∙ ft) ∙ stop _ (sym links_same ∙ q)
 
-        module _ (qt : ts.answer ≡ Done) where
-          task_count_is : ts.count ≡ task_count s
-          task_count_is = (reads_value tasks_read qt).0
+        module _ (m end : ℕ) (ls : List Link) (fl : links_fault s behind n ≡ none) (em : m ≡ number_at s behind) (el : ls ≡ links_at s behind m)
+            (ee : end ≡ behind + 4 + 12 * m) where
+          m_is : m ≡ link_count s
+          m_is = em ∙ ap (number_at s) behind_is
 
-          tasks_end : ts.end ≡ link_section (job_version s) (node_count s) (task_count s)
-          tasks_end = (reads_value tasks_read qt).2 ∙ ap (λ n. link_section (job_version s) (node_count s) n) task_count_is
+          to_tail : job_fault s ≡ tail_fault s end
+          unfolding job_fault
+          to_tail =
+              let e : end ≡ job_length (job_version s) (node_count s) (task_count s) (link_count s) = ee ∙ ap₂ (λ b m. b + 4 + 12 * m) behind_is m_is in
+              pass _ fv ∙ pass _ nodes_fine ∙ pass _ (sym tasks_same ∙ ft) ∙ pass _ (sym links_same ∙ fl) ∙ ap (tail_fault s) (sym e)
 
-          pub task_least : min_tasks ≤ ts.count
-          task_least = omega (arith, (tasks_good (job_version s) s _ _ (reads_none tasks_read qt)).count.least, task_count_is)
+          pub bad_tail : end < length s → job_fault s ≡ some (Tail end)
+          bad_tail h = to_tail ∙ tail_some s _ h
 
-          module _ (ls : Links)
-              (el : Reads (links_fault s ts.end ts.count) ls.answer
-              ((ls.count ≡ number_at s ts.end) × (ls.list ≡ links_at s ts.end ls.count))) where
-            links_read : Reads (links_fault s (link_section (job_version s) (node_count s) (task_count s)) (task_count s)) ls.answer
-                ((ls.count ≡ link_count s) × (ls.list ≡ links_at s (link_section (job_version s) (node_count s) (task_count s)) ls.count))
-            links_read =
-                subst
-                (λ at. Reads (links_fault s at (task_count s)) ls.answer ((ls.count ≡ number_at s at) × (ls.list ≡ links_at s at ls.count)))
-                tasks_end
-                (subst
-                (λ n. Reads (links_fault s ts.end n) ls.answer ((ls.count ≡ number_at s ts.end) × (ls.list ≡ links_at s ts.end ls.count)))
-                task_count_is el)
+          pub whole_fine : length s ≤ end → job_fault s ≡ none
+          whole_fine h = to_tail ∙ good_tail s _ h
 
-            pub bad_links : {r : Refusal} → ls.answer ≡ Refused r → job_fault s ≡ some r
-            unfolding job_fault
-            bad_links q =
-                pass _ (is_none v _ _ ev qv)
-                ∙ pass _ (reads_none nodes_read qn)
-                ∙ pass _ (reads_none tasks_read qt)
-                ∙ stop _ (reads_some links_read q)
-
-            module _ (ql : ls.answer ≡ Done) where
-              end_is : ts.end + 4 + 12 * ls.count ≡ job_length (job_version s) (node_count s) (task_count s) (link_count s)
-              end_is = ap₂ (λ at m. at + 4 + 12 * m) tasks_end (reads_value links_read ql).0
-
-              to_tail : job_fault s ≡ tail_fault s (ts.end + 4 + 12 * ls.count)
-              unfolding job_fault
-              to_tail =
-                  pass _ (is_none v _ _ ev qv)
-                  ∙ pass _ (reads_none nodes_read qn)
-                  ∙ pass _ (reads_none tasks_read qt)
-                  ∙ pass _ (reads_none links_read ql)
-                  ∙ ap (tail_fault s) (sym end_is)
-
-              pub bad_tail : ts.end + 4 + 12 * ls.count < length s → job_fault s ≡ some (Tail (ts.end + 4 + 12 * ls.count))
-              bad_tail h = to_tail ∙ tail_some s _ h
-
-              job_is : ◌≡◌ {A = Job} (record {
-                version = x;
-                node_count = ns.count;
-                nodes = ns.list;
-                task_count = ts.count;
-                tasks = ts.list;
-                link_count = ls.count;
-                links = ls.list;
-              }) (job_at s)
-              unfolding job_at
-              job_is =
-                  let ex = version_is in
-                  let ep = node_count_is in
-                  let en : ns.list ≡ nodes_at (job_version s) s ns.count = (reads_value nodes_read qn).1 in
-                  let eq = task_count_is in
-                  let et : ts.list ≡ tasks_at (job_version s) s (task_section (job_version s) (node_count s)) (node_count s) ts.count =
-                  (reads_value tasks_read qt).1 in
-                  let em : ls.count ≡ link_count s = (reads_value links_read ql).0 in
-                  let el : ls.list ≡ links_at s (link_section (job_version s) (node_count s) (task_count s)) ls.count = (reads_value links_read ql).1 in
-                  cc
-
-              pub whole_job : length s ≤ ts.end + 4 + 12 * ls.count
-                  → ◌≡◌ {A = JobRead} (record {
-                    answer = Done;
-                    job = record {
-                      version = x;
-                      node_count = ns.count;
-                      nodes = ns.list;
-                      task_count = ts.count;
-                      tasks = ts.list;
-                      link_count = ls.count;
-                      links = ls.list;
-                    };
-                  }) (read_job s)
-              unfolding read_job
-              whole_job h = rw (to_tail ∙ good_tail s _ h) (ap (λ j. record { answer = Done; job = j }) job_is)
+          pub whole_job : ◌≡◌ {A = Job} (record {
+            version = x;
+            node_count = p;
+            nodes = ns;
+            task_count = n;
+            tasks = ts;
+            link_count = m;
+            links = ls;
+          }) (job_at s)
+          unfolding job_at
+          whole_job =
+              let eq = n_is in
+              let ea = start_is in
+              let ez = behind_is in
+              let ew = m_is in
+              cc

@@ -7,9 +7,8 @@ use Rattle.reader.specs.declared.refusal.Refusal.{Refusal}
 use Rattle.reader.specs.declared.refusal.Refusal.TheVariants.{Short, Version, Count, Value, LinkOrder, Tail, Unable, SameNode, Early, Late}
 use Rattle.reader.specs.declared.refusal.Refusal.TheVariants.{PrimaryUnfed, BackupUnfed, CommonLoss, Overlap}
 use Rattle.reader.specs.declared.refusal.Refusal.TheVariants.{NoPrimary, NoBackup, ShortBuffer, NoSuchNode, TooSoon, Full, Stale, NotASentence}
-use Rattle.reader.specs.declared.refusal.Answer.{Answer}
-use Rattle.reader.specs.declared.refusal.Answer.TheVariants.{Done, Refused}
-use Rattle.reader.specs.Refusals.{Told, told, tell, packed, result_number, Fits}
+use Rattle.std.specs.Prelude.{Ok, Err}
+use Rattle.reader.specs.Refusals.{Answer, Told, told, tell, packed, result_number, Fits}
 
 -- packing without the remainders
 packed_sum : (t : Told) → Fits t → packed t ≡ t.number + 2 ^ 8 * t.first + 2 ^ 40 * t.second
@@ -74,6 +73,6 @@ positive t h = let e : t.number % 2 ^ 8 ≡ t.number = mod-eq_of_lt (omega arith
 pub packed_some : (r : Refusal) → 0 < packed (tell r)
 packed_some r = positive (tell r) (tell_number r)
 
-pub result_done : (a : Answer) → result_number a ≡ 0 → a ≡ Done
-result_done Done e = refl
-result_done (Refused r) e = absurd (omega (arith, packed_some r))
+pub result_done : (a : Answer) → result_number a ≡ 0 → a ≡ Ok tt
+result_done (Ok tt) e = refl
+result_done (Err r) e = absurd (omega (arith, packed_some r))

@@ -1,7 +1,7 @@
 -- What reading promises: the job in a file without fault is sound, and so is a plan after its job.
 use Prim.Native.Nat.{ℕ, suc, ◌+◌, ◌*◌, ◌≤◌, ◌<◌}
 use native.Mathlib.Omega.{arith}
-use mathlib.Core.Path.{◌≡◌, refl, sym, subst}
+use mathlib.Core.Path.{◌≡◌, refl, sym, subst, ap}
 use mathlib.Core.Bool.{true}
 use mathlib.Core.List.{List}
 use mathlib.Core.Option.{Option, none}
@@ -11,21 +11,19 @@ use Rattle.reader.specs.declared.job.Link.{Link}
 use Rattle.reader.specs.declared.job.Job.{Job}
 use Rattle.reader.specs.declared.plan.Plan.{Plan}
 use Rattle.reader.specs.declared.refusal.Refusal.{Refusal}
-use Rattle.reader.specs.declared.refusal.Answer.TheVariants.{Done}
+use Rattle.std.specs.Prelude.{Ok}
+use Rattle.reader.specs.Refusals.{resulted, answer_of}
 use Rattle.reader.specs.Limits.{plan_version, min_tasks, max_nodes, max_time}
-use Rattle.reader.specs.Entries.{nodes, tasks, node, task, link, place, empty_job, empty_plan}
+use Rattle.reader.specs.Entries.{nodes, tasks, node, task, link, place}
 use Rattle.reader.specs.Sound.{below, Sound, SoundPlace, PlanSound}
-use Rattle.reader.specs.JobFile.{job_version, node_count, task_count, link_count, node_at, task_at, link_at, link_before, job_fault, job_at, unless_fault}
+use Rattle.reader.specs.JobFile.{job_version, node_count, task_count, link_count, node_at, task_at, link_at, link_before, job_fault, job_at}
 use Rattle.reader.specs.JobFile.{read_job, JobDone}
 use Rattle.reader.specs.Fields.{node_fields, task_fields, node_values, task_values, reaches, width, fields_at}
 use Rattle.reader.specs.PlanFile.{place_at, plan_fault, plan_at, read_plan, PlanDone}
-use Rattle.reader.proofs.RefusalLaws.{answered_done}
+use Rattle.reader.proofs.RefusalLaws.{done_none}
 use Rattle.reader.proofs.VersionLaws.{GoodFields, AllWithin, fields_within, within_most, within_lacks}
 use Rattle.reader.proofs.Accepted.{GoodTask, GoodLink, GoodJob, GoodPlace, GoodPlan, job_good, plan_good}
 use Rattle.reader.proofs.EntryLaws.{node_at_lem, run_at_lem, task_at_lem, link_at_lem, place_at_lem}
-
-pub none_value : {A : Type 0} (o : Option Refusal) (a b : A) → o ≡ none → unless_fault o a b ≡ a
-none_value o a b e = rw e
 
 -- what is promised of one node in version v, of one task, of one link between n tasks, and of one place
 node_sound : (v : ℕ) (s : List ℕ) (i at : ℕ) → GoodFields v s at (node_fields i) → AllWithin v (node_fields i) (node_values (node_at v s i at))
@@ -153,16 +151,14 @@ plan_sound s job h e =
     of_places job _ (omega (arith, g.version)) (omega (arith, g.count)) (places_sound s job h g)
 
 -- the same of what the functions give
-pub job_done : (s : List ℕ) → (read_job s).answer ≡ Done → JobDone s
+pub job_done : (s : List ℕ) → answer_of (read_job s) ≡ Ok tt → JobDone s
 unfolding read_job
 job_done s d =
-    let e = (answered_done (job_fault s)).0 d in
-    let j = none_value (job_fault s) (job_at s) empty_job e in
-    record { fault = e; job = j; sound = rw j (job_sound s e) }
+    let e = done_none _ (job_fault s) d in
+    record { fault = e; job = ap (λ o. resulted o (job_at s)) e; sound = job_sound s e }
 
-pub plan_done : (s : List ℕ) (job : Job) → Sound job → (read_plan s job).answer ≡ Done → PlanDone s job
+pub plan_done : (s : List ℕ) (job : Job) → Sound job → answer_of (read_plan s job) ≡ Ok tt → PlanDone s job
 unfolding read_plan
 plan_done s job h d =
-    let e = (answered_done (plan_fault s job)).0 d in
-    let x = none_value (plan_fault s job) (plan_at s (tasks job)) empty_plan e in
-    record { fault = e; plan = x; sound = rw x (plan_sound s job h e) }
+    let e = done_none _ (plan_fault s job) d in
+    record { fault = e; plan = ap (λ o. resulted o (plan_at s (tasks job))) e; sound = plan_sound s job h e }

@@ -6,13 +6,10 @@ use mathlib.Core.Option.{Option, none, some}
 use lib.ListN.{set}
 use native.Mathlib.Omega.{arith}
 use Rattle.reader.specs.declared.refusal.Refusal.{Refusal}
-use Rattle.reader.specs.declared.refusal.Answer.{Answer}
-use Rattle.reader.specs.declared.refusal.Answer.TheVariants.{Done, Refused}
 use Rattle.reader.specs.First.{◌or_else◌, first, fill}
-use Rattle.reader.specs.Reads.{Reads}
 use Rattle.reader.proofs.FirstLaws.{first_start, first_more, first_found}
 use Rattle.reader.proofs.FillLaws.{fill_none, fill_more}
-use Rattle.reader.proofs.Chain.{pass, stopped, finished, reads_none, reads_some, reads_value, valued}
+use Rattle.reader.proofs.Chain.{pass}
 
 -- the count's fault, the count, each entry's fault and value, and the list that the loop starts with
 module _ {A : Type 0} (counted : Option Refusal) (n : ℕ) (fault : ℕ → Option Refusal) (value : ℕ → A) (empty : List A) where
@@ -46,21 +43,20 @@ module _ {A : Type 0} (counted : Option Refusal) (n : ℕ) (fault : ℕ → Opti
       stored = ap₂ (λ l x. set l i x) inv.stored is ∙ fill_more value empty i;
     }
 
-    pub read_stop : {X : Type 0} {a : Answer} {r : Refusal} → i < k → fault i ≡ some r → a ≡ Refused r → Reads (counted or_else first n fault) a X
-    read_stop {X} {a} {r} below bad told =
+    pub read_stop : {r : Refusal} → i < k → fault i ≡ some r → (counted or_else first n fault) ≡ some r
+    read_stop {r} below bad =
         let e : i < n = omega (arith, inv.count_is) in
-        stopped (pass _ inv.count_fine ∙ first_found fault n i r e inv.clear bad) told
+        pass _ inv.count_fine ∙ first_found fault n i r e inv.clear bad
 
-    pub read_end : {a : Answer} → a ≡ Done → k ≤ i → Reads (counted or_else first n fault) a ((k ≡ n) × (list ≡ fill k value empty))
-    read_end told all =
+    pub read_fine : k ≤ i → (counted or_else first n fault) ≡ none
+    read_fine all =
+        let e : i ≡ n = omega (arith, inv.most, inv.count_is) in
+        pass _ inv.count_fine ∙ ap (λ m. first m fault) (sym e) ∙ inv.clear
+
+    pub read_end : k ≤ i → (k ≡ n) × (list ≡ fill k value empty)
+    read_end all =
         let e : i ≡ k = omega (arith, inv.most) in
-        finished
-        (pass _ inv.count_fine ∙ ap (λ m. first m fault) (sym (e ∙ inv.count_is)) ∙ inv.clear)
-        told
         (inv.count_is, inv.stored ∙ ap (λ m. fill m value empty) e)
-
-    pub read_done : k ≤ i → Reads (counted or_else first n fault) Done ((k ≡ n) × (list ≡ fill k value empty))
-    read_done = read_end refl
 
 -- rows of width w from an offset on, of which each tells the offset behind it: each has its fault and its value by its number and its offset
 module _ {A : Type 0} (counted : Option Refusal) (n : ℕ) (fault : ℕ → ℕ → Option Refusal) (value : ℕ → ℕ → A) (empty : List A)
@@ -80,22 +76,21 @@ module _ {A : Type 0} (counted : Option Refusal) (n : ℕ) (fault : ℕ → ℕ 
   rows_begin k list fine is e = record { read = read_begin _ _ _ _ _ k list fine is e; here = omega arith }
 
   module _ (k i at : ℕ) (list : List A) (inv : RowsTo k i at list) where
-    pub rows_end : {a : Answer} → a ≡ Done → k ≤ i
-        → Reads (counted or_else first n row_fault) a ((k ≡ n) × (list ≡ fill k row_value empty) × (at ≡ from + k * w))
-    rows_end told all =
+    pub rows_fine : k ≤ i → (counted or_else first n row_fault) ≡ none
+    rows_fine = read_fine _ _ _ _ _ k i list inv.read
+
+    pub rows_end : k ≤ i → (k ≡ n) × (list ≡ fill k row_value empty) × (at ≡ from + k * w)
+    rows_end all =
         let e : i ≡ k = omega (arith, inv.read.most) in
-        valued (λ v. (v.0, v.1, inv.here ∙ ap (λ x. from + x * w) e)) (read_end _ _ _ _ _ k i list inv.read told all)
+        let v = read_end _ _ _ _ _ k i list inv.read all in
+        (v.0, v.1, inv.here ∙ ap (λ x. from + x * w) e)
 
     -- the next row
-    module _ {a : Answer} {x : A} {end : ℕ} (row : Reads (fault i at) a ((x ≡ value i at) × (end ≡ at + w))) (below : i < k) where
-      pub rows_more : a ≡ Done → RowsTo k (i + 1) end (set list i x)
-      rows_more told =
-          let v = reads_value row told in
-          let fine = sym (ap (fault i) inv.here) ∙ reads_none row told in
-          record {
-            read = read_more _ _ _ _ _ k i list inv.read x below fine (v.0 ∙ ap (value i) inv.here);
-            here = omega (arith, inv.here, v.1);
-          }
+    pub rows_more : {x : A} {end : ℕ} → fault i at ≡ none → x ≡ value i at → end ≡ at + w → i < k → RowsTo k (i + 1) end (set list i x)
+    rows_more {x} {end} fine is ends below = record {
+      read = read_more _ _ _ _ _ k i list inv.read x below (sym (ap (fault i) inv.here) ∙ fine) (is ∙ ap (value i) inv.here);
+      here = omega (arith, inv.here, ends);
+    }
 
-      pub rows_stop : {X : Type 0} {b : Answer} {r : Refusal} → a ≡ Refused r → b ≡ Refused r → Reads (counted or_else first n row_fault) b X
-      rows_stop {X} {b} {r} bad told = read_stop _ _ _ _ _ k i list inv.read below (sym (ap (fault i) inv.here) ∙ reads_some row bad) told
+    pub rows_stop : {r : Refusal} → fault i at ≡ some r → i < k → (counted or_else first n row_fault) ≡ some r
+    rows_stop bad below = read_stop _ _ _ _ _ k i list inv.read below (sym (ap (fault i) inv.here) ∙ bad)

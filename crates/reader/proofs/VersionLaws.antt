@@ -9,9 +9,9 @@ use lib.ListN.{length}
 use borrow.Author.Tests.{leb-false, lt-leb}
 use Rattle.reader.specs.declared.refusal.Refusal.{Refusal}
 use Rattle.reader.specs.declared.refusal.Refusal.TheVariants.{Value}
-use Rattle.reader.specs.declared.number.Number.{Number}
-use Rattle.reader.specs.declared.number.Number.TheVariants.{Is}
-use Rattle.reader.specs.Number.{number_at, numbered}
+use Rattle.std.specs.Prelude.{Result, Ok}
+use Rattle.reader.specs.Refusals.{resulted}
+use Rattle.reader.specs.Number.{number_at}
 use Rattle.reader.specs.Fields.{Field, width_if, fault_if, value_if, reaches, has, width, fields_fault, fields_at}
 use Rattle.reader.proofs.TestLaws.{split, clash}
 use Rattle.reader.proofs.FirstLaws.{or_else_l, or_else_r, or_else_i}
@@ -19,12 +19,12 @@ use Rattle.reader.proofs.FieldLaws.{Good, field_good, good_field}
 
 -- the answer for a field that the version has, and for one that it lacks
 module _ (b : Bool) (o : Option Refusal) (x lacking : ℕ) where
-  pub has_is : (n : Number) → b ≡ true → n ≡ numbered o x → n ≡ numbered (fault_if b o) (value_if b x lacking)
+  pub has_is : (n : Result ℕ Refusal) → b ≡ true → n ≡ resulted o x → n ≡ resulted (fault_if b o) (value_if b x lacking)
   unfolding fault_if value_if
   has_is n h e = rw h e
 
-  pub lacks_is : b ≡ false → Is lacking ≡ numbered (fault_if b o) (value_if b x lacking)
-  unfolding fault_if value_if numbered
+  pub lacks_is : b ≡ false → Ok lacking ≡ resulted (fault_if b o) (value_if b x lacking)
+  unfolding fault_if value_if
   lacks_is h = rw h
 
 fault_if_lem : (b : Bool) (o : Option Refusal) → fault_if b o ≡ none → b ≡ true → o ≡ none

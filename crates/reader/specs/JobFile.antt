@@ -1,20 +1,19 @@
 -- A job file: its first fault in file order, and the job, each number where it stands.
-use Rattle.std.specs.Prelude.{ℕ, zero, suc, ◌+◌, ◌-◌, ◌*◌, Bool, List, ◌≡◌, leb, ltb, length, replicate}
+use Rattle.std.specs.Prelude.{ℕ, zero, suc, ◌+◌, ◌-◌, ◌*◌, Bool, List, ◌≡◌, leb, ltb, length, replicate, Result, Ok}
 use Rattle.std.proofs.Math.Option.{Option, none, some}
 use Rattle.reader.specs.declared.job.Node.{Node}
 use Rattle.reader.specs.declared.job.Task.{Task}
 use Rattle.reader.specs.declared.job.Link.{Link}
 use Rattle.reader.specs.declared.job.Job.{Job}
-use Rattle.reader.specs.declared.job_file.JobRead.{JobRead}
 use Rattle.reader.specs.declared.refusal.Refusal.{Refusal}
 use Rattle.reader.specs.declared.refusal.Refusal.TheVariants.{LinkOrder, Tail}
 use Rattle.reader.specs.Tests.{◌and◌}
 use Rattle.reader.specs.First.{◌or_else◌, first, unless, fill}
 use Rattle.reader.specs.Limits.{newest_version, min_nodes, max_nodes, min_tasks, max_tasks, max_links, max_time}
-use Rattle.reader.specs.Entries.{no_node, blank_task, no_link, empty_job}
+use Rattle.reader.specs.Entries.{no_node, blank_task, no_link}
 use Rattle.reader.specs.Number.{number_at, version_fault, count_fault, value_fault}
 use Rattle.reader.specs.Fields.{node_fields, task_fields, node_from, task_from, width, fields_fault, fields_at}
-use Rattle.reader.specs.Refusals.{answered}
+use Rattle.reader.specs.Refusals.{resulted}
 use Rattle.reader.specs.Sound.{below, Sound}
 
 -- the version; and the bytes of an entry in version v, of a node, whichever it is, and of a task with p run times
@@ -142,20 +141,12 @@ job_at s = record {
   links = links_at s (link_section (job_version s) (node_count s) (task_count s)) (link_count s);
 }
 
--- a where there is no fault, else b
-abbrev pub unless_fault : {A : Type 0} → Option Refusal → A → A → A
-unless_fault none a b = a
-unless_fault (some r) a b = b
+-- what reading a job file gives: the job, or the first fault
+abbrev pub read_job_up_to : ℕ → List ℕ → Result Job Refusal
+read_job_up_to newest s = resulted (job_fault_up_to newest s) (job_at s)
 
--- what reading a job file gives: the answer, and the job, which is empty on a refusal
-abbrev pub job_read : Option Refusal → Job → JobRead
-job_read fault job = record { answer = answered fault; job = unless_fault fault job empty_job }
-
-abbrev pub read_job_up_to : ℕ → List ℕ → JobRead
-read_job_up_to newest s = job_read (job_fault_up_to newest s) (job_at s)
-
-unfoldable pub read_job : List ℕ → JobRead
-read_job s = job_read (job_fault s) (job_at s)
+unfoldable pub read_job : List ℕ → Result Job Refusal
+read_job s = resulted (job_fault s) (job_at s)
 
 -- a file of a version that such a reader does not know yet
 unfoldable pub is_later : ℕ → List ℕ → Bool
@@ -164,5 +155,5 @@ is_later newest s = leb 4 (length s) and ltb newest (job_version s)
 -- of a job file that is read: no fault, the job in it, and what reading promises
 pub record JobDone (s : List ℕ) : Type 0 where
   pub fault : job_fault s ≡ none
-  pub job : (read_job s).job ≡ job_at s
-  pub sound : Sound (read_job s).job
+  pub job : read_job s ≡ Ok (job_at s)
+  pub sound : Sound (job_at s)

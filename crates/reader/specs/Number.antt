@@ -3,8 +3,6 @@ use Rattle.std.specs.Prelude.{ℕ, ◌+◌, ◌*◌, ◌/◌, ◌%◌, ◌^◌, 
 use Rattle.std.proofs.Math.Option.{Option, none, some}
 use Rattle.reader.specs.declared.refusal.Refusal.{Refusal}
 use Rattle.reader.specs.declared.refusal.Refusal.TheVariants.{Short, Version, Count, Value}
-use Rattle.reader.specs.declared.number.Number.{Number}
-use Rattle.reader.specs.declared.number.Number.TheVariants.{Is, Fault}
 use Rattle.reader.specs.Tests.{◌and◌}
 use Rattle.reader.specs.First.{◌or_else◌, unless}
 use Rattle.reader.specs.Limits.{first_version}
@@ -39,13 +37,3 @@ count_fault s at low high = field_fault s at low high (Count at)
 
 abbrev pub value_fault : List ℕ → ℕ → ℕ → ℕ → Option Refusal
 value_fault s at low high = field_fault s at low high (Value at)
-
--- the answer for one number: its fault, or v
-unfoldable pub numbered : Option Refusal → ℕ → Number
-numbered none v = Is v
-numbered (some r) v = Fault r
-
--- the fault that such an answer holds
-abbrev pub fault_of : Number → Option Refusal
-fault_of (Is v) = none
-fault_of (Fault r) = some r

@@ -1,19 +1,18 @@
 -- A plan file after its job: its first fault in file order, and the plan, each number where it stands.
-use Rattle.std.specs.Prelude.{ℕ, ◌+◌, ◌-◌, ◌*◌, List, ◌≡◌, ltb, get_or, replicate}
+use Rattle.std.specs.Prelude.{ℕ, ◌+◌, ◌-◌, ◌*◌, List, ◌≡◌, ltb, get_or, replicate, Result, Ok}
 use Rattle.std.proofs.Math.Option.{Option, none}
 use Rattle.reader.specs.declared.job.Job.{Job}
 use Rattle.reader.specs.declared.plan.Place.{Place}
 use Rattle.reader.specs.declared.plan.Plan.{Plan}
-use Rattle.reader.specs.declared.plan_file.PlanRead.{PlanRead}
 use Rattle.reader.specs.declared.refusal.Refusal.{Refusal}
 use Rattle.reader.specs.declared.refusal.Refusal.TheVariants.{Unable}
 use Rattle.reader.specs.First.{◌or_else◌, first, unless, fill}
 use Rattle.reader.specs.Limits.{plan_version, max_tasks, max_start}
-use Rattle.reader.specs.Entries.{nodes, tasks, task, no_place, empty_plan}
+use Rattle.reader.specs.Entries.{nodes, tasks, task, no_place}
 use Rattle.reader.specs.Number.{number_at, version_fault, count_fault, value_fault}
-use Rattle.reader.specs.Refusals.{answered}
+use Rattle.reader.specs.Refusals.{resulted}
 use Rattle.reader.specs.Sound.{PlanSound}
-use Rattle.reader.specs.JobFile.{tail_fault, unless_fault}
+use Rattle.reader.specs.JobFile.{tail_fault}
 
 -- 'Nodes are below P'; 7, 'run time 0 on a planned node', for a task of these run times
 unfoldable pub node_fault : List ℕ → ℕ → ℕ → List ℕ → Option Refusal
@@ -57,13 +56,12 @@ plan_fault s job =
 unfoldable pub plan_at : List ℕ → ℕ → Plan
 plan_at s n = record { version = number_at s 0; task_count = number_at s 4; places = places_at s n }
 
--- what reading a plan file gives: the answer, and the plan, which is empty on a refusal
-unfoldable pub read_plan : List ℕ → Job → PlanRead
-read_plan s job =
-    record { answer = answered (plan_fault s job); plan = unless_fault (plan_fault s job) (plan_at s (tasks job)) empty_plan }
+-- what reading a plan file gives: the plan, or the first fault
+unfoldable pub read_plan : List ℕ → Job → Result Plan Refusal
+read_plan s job = resulted (plan_fault s job) (plan_at s (tasks job))
 
 -- of a plan file that is read after its job: the same
 pub record PlanDone (s : List ℕ) (job : Job) : Type 0 where
   pub fault : plan_fault s job ≡ none
-  pub plan : (read_plan s job).plan ≡ plan_at s (tasks job)
-  pub sound : PlanSound job (read_plan s job).plan
+  pub plan : read_plan s job ≡ Ok (plan_at s (tasks job))
+  pub sound : PlanSound job (plan_at s (tasks job))

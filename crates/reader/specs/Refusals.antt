@@ -1,13 +1,11 @@
 -- The table of document 01, and what document 02 adds to it: the number and both places of each refusal, and the 8-byte result that holds them.
-use Rattle.std.specs.Prelude.{ℕ, ◌+◌, ◌*◌, ◌%◌, ◌^◌, ◌<◌, ◌≡◌}
+use Rattle.std.specs.Prelude.{ℕ, ◌+◌, ◌*◌, ◌%◌, ◌^◌, ◌<◌, ◌≡◌, Result, Ok, Err, ⊤}
 use Rattle.std.proofs.Math.Option.{Option, none, some}
 use Rattle.reader.specs.declared.refusal.Refusal.{Refusal}
 use Rattle.reader.specs.declared.refusal.Refusal.TheVariants.{Short, Version, Count, Value, LinkOrder, Tail, Unable, SameNode, Early, Late}
 use Rattle.reader.specs.declared.refusal.Refusal.TheVariants.{PrimaryUnfed, BackupUnfed, CommonLoss, Overlap}
 use Rattle.reader.specs.declared.refusal.Refusal.TheVariants.{NoPrimary, NoBackup, ShortBuffer, NoSuchNode, TooSoon, Full, Stale, NotASentence}
-use Rattle.reader.specs.declared.refusal.Answer.{Answer}
 pub use Rattle.reader.specs.declared.refusal.Told.{Told}
-use Rattle.reader.specs.declared.refusal.Answer.TheVariants.{Done, Refused}
 
 -- a row of the table
 abbrev pub told : ℕ → ℕ → ℕ → Told
@@ -37,18 +35,30 @@ tell (Full j) = told 20 j 0
 tell (Stale j) = told 21 j j
 tell (NotASentence n) = told 22 n 0
 
--- a first refusal as a step's answer
+-- a value, or the first refusal
+abbrev pub resulted : {A : Type 0} → Option Refusal → A → Result A Refusal
+resulted none a = Ok a
+resulted (some r) a = Err r
+
+-- the answer of a step: done, or the first refusal
+abbrev pub Answer : Type 0
+Answer = Result ⊤ Refusal
+
 abbrev pub answered : Option Refusal → Answer
-answered none = Done
-answered (some r) = Refused r
+answered o = resulted o tt
+
+-- what a result says apart from its value
+abbrev pub answer_of : {A : Type 0} → Result A Refusal → Answer
+answer_of (Ok a) = Ok tt
+answer_of (Err r) = Err r
 
 -- 'the number in the lowest 8 bits, the first place in the next 32, the second in the top 24. Success is 0.'
 unfoldable pub packed : Told → ℕ
 packed t = t.number % 2 ^ 8 + 2 ^ 8 * (t.first % 2 ^ 32) + 2 ^ 40 * (t.second % 2 ^ 24)
 
 abbrev pub result_number : Answer → ℕ
-result_number Done = 0
-result_number (Refused r) = packed (tell r)
+result_number (Ok a) = 0
+result_number (Err r) = packed (tell r)
 
 -- a refusal whose number and places fit their bits
 pub record Fits (t : Told) : Type 0 where

@@ -10,6 +10,15 @@ pub struct Node {
     pub group: u32,
 }
 
+impl Node {
+    // All 0.
+    pub const BLANK: Node = Node {
+        detect: 0,
+        send: 0,
+        group: 0,
+    };
+}
+
 // A run time of 0 says that the node cannot run the task.
 #[derive(Clone, Copy)]
 pub struct Task {
@@ -18,11 +27,29 @@ pub struct Task {
     pub run: [u32; Job::MAX_NODES],
 }
 
+impl Task {
+    // All 0.
+    pub const BLANK: Task = Task {
+        ready: 0,
+        deadline: 0,
+        run: [0; Job::MAX_NODES],
+    };
+}
+
 #[derive(Clone, Copy)]
 pub struct Link {
     pub from: u32,
     pub to: u32,
     pub delay: u32,
+}
+
+impl Link {
+    // All 0.
+    pub const BLANK: Link = Link {
+        from: 0,
+        to: 0,
+        delay: 0,
+    };
 }
 
 // What the arrays hold beyond their counts is no part of the job, and a field that its version lacks is none.
@@ -76,29 +103,14 @@ impl Job {
     pub fn empty() -> Job
         ensures { result ≡ empty_job }
     {
-        let node = Node {
-            detect: 0,
-            send: 0,
-            group: 0,
-        };
-        let task = Task {
-            ready: 0,
-            deadline: 0,
-            run: [0; Job::MAX_NODES],
-        };
-        let link = Link {
-            from: 0,
-            to: 0,
-            delay: 0,
-        };
         Job {
             version: 1,
             node_count: 0,
-            nodes: [node; Job::MAX_NODES],
+            nodes: [Node::BLANK; Job::MAX_NODES],
             task_count: 0,
-            tasks: [task; Job::MAX_TASKS],
+            tasks: [Task::BLANK; Job::MAX_TASKS],
             link_count: 0,
-            links: [link; Job::MAX_LINKS],
+            links: [Link::BLANK; Job::MAX_LINKS],
         }
     }
 }

@@ -12,6 +12,16 @@ pub struct Place {
     pub backup_start: u32,
 }
 
+impl Place {
+    // All 0.
+    pub const BLANK: Place = Place {
+        primary_node: 0,
+        primary_start: 0,
+        backup_node: 0,
+        backup_start: 0,
+    };
+}
+
 #[derive(Clone, Copy)]
 pub struct Plan {
     pub version: u32,
@@ -30,16 +40,10 @@ impl Plan {
     pub fn empty() -> Plan
         ensures { result ≡ empty_plan }
     {
-        let place = Place {
-            primary_node: 0,
-            primary_start: 0,
-            backup_node: 0,
-            backup_start: 0,
-        };
         Plan {
             version: 1,
             task_count: 0,
-            places: [place; Job::MAX_TASKS],
+            places: [Place::BLANK; Job::MAX_TASKS],
         }
     }
 }

@@ -29,13 +29,6 @@ pub enum Refusal {
     NotASentence(usize),
 }
 
-// The answer of a step: done, or the first refusal.
-#[derive(Clone, Copy)]
-pub enum Answer {
-    Done,
-    Refused(Refusal),
-}
-
 // A row of the table: the refusal's number and both places.
 #[derive(Clone, Copy)]
 pub struct Told {
@@ -66,11 +59,11 @@ impl Told {
     }
 }
 
-impl Refusal {
-    pub fn tell(self) -> Told
-        ensures { result ≡ tell self }
-    {
-        match self {
+impl From<Refusal> for Told {
+    ghost from_gives = { λ refusal it. it ≡ tell refusal };
+
+    fn from(refusal: Refusal) -> Told {
+        match refusal {
             Refusal::Short(at) => Told::of(1, at, 0),
             Refusal::Version(at) => Told::of(2, at, 0),
             Refusal::Count(at) => Told::of(3, at, 0),
@@ -97,14 +90,12 @@ impl Refusal {
     }
 }
 
-impl Answer {
-    // The answer as the one number that crosses to C.
-    pub fn result(self) -> u64
-        ensures { result ≡ result_number self }
-    {
-        match self {
-            Answer::Done => 0,
-            Answer::Refused(r) => r.tell().packed(),
-        }
+// The answer of a step as the one number that crosses to C: 0 where it is done, else its refusal.
+pub fn result_number(answer: Result<(), Refusal>) -> u64
+    ensures { result ≡ result_number answer }
+{
+    match answer {
+        Ok(()) => 0,
+        Err(refusal) => Told::from(refusal).packed(),
     }
 }

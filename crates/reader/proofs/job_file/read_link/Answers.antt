@@ -1,34 +1,52 @@
 -- `reader::job_file::read_link` meets its contract.
-use mathlib.Core.Path.{◌∙◌}
-use native.Mathlib.Omega.{arith}
-use Rattle.reader.proofs.NumberLaws.{is_good}
-use Rattle.reader.proofs.Chain.{handed}
-use Rattle.reader.proofs.LinkLaws.{link_from, link_to, link_delay, link_order, link_done}
+use mathlib.Core.Path.{refl}
+use Rattle.reader.proofs.NumberLaws.{is_none, is_value, is_fault}
+use Rattle.reader.proofs.Chain.{stopped, broken, finished}
+use Rattle.reader.proofs.LinkLaws.{bad_from, bad_to, bad_delay, bad_order, whole_link, link_is}
 use Rattle.reader.proofs.job_file.read_link.Goals as goal
 
-pub returns-in_default : goal.returns-in_default
-returns-in_default c =
-    link_from _ _ _ _ _ c.field-f.ensures c.in_default.is (c.no_link.ensures ∙ handed c.handed_on.ensures c.in_default.is)
+pub returns-in_err-from : goal.returns-in_err-from
+returns-in_err-from c = stopped _ c.from_residual.ensures.1 (bad_from _ _ _ _ (is_fault _ _ _ c.field.ensures c.in_err-from.was))
 
-pub overflow_add-least : goal.overflow_add-least
-overflow_add-least c = omega (arith, is_good _ _ _ _ _ _ c.field-f.ensures c.in-Is.is)
+pub returns-in_err-to : goal.returns-in_err-to
+returns-in_err-to c =
+    let e = c.field.ensures in
+    let q = c.in_ok-from.was in
+    stopped _ c.from_residual-in_err-to.ensures.1
+    (bad_to _ _ _ _ _ (is_none _ _ _ e q) (is_value _ _ _ e q) (is_fault _ _ _ c.field-2.ensures c.in_err-to.was))
 
-pub returns-in_default-t : goal.returns-in_default-t
-returns-in_default-t c =
-    link_to _ _ _ _ _ c.field-f.ensures _ c.in-Is.is _ c.field-t.ensures c.in_default-t.is
-    (c.no_link-in_default-t.ensures ∙ handed c.handed_on-in_default-t.ensures c.in_default-t.is)
-
-pub returns-in_default-d : goal.returns-in_default-d
-returns-in_default-d c =
-    link_delay _ _ _ _ _ c.field-f.ensures _ c.in-Is.is _ c.field-t.ensures _ c.in-Is-t.is _ c.field-d.ensures
-    c.in_default-d.is (c.no_link-in_default-d.ensures ∙ handed c.handed_on-in_default-d.ensures c.in_default-d.is)
+pub returns-in_err-delay : goal.returns-in_err-delay
+returns-in_err-delay c =
+    let e = c.field.ensures in
+    let q = c.in_ok-from.was in
+    let g = c.field-2.ensures in
+    let r = c.in_ok-to.was in
+    stopped _ c.from_residual-in_err-delay.ensures.1
+    (bad_delay _ _ _ _ _ (is_none _ _ _ e q) (is_value _ _ _ e q) _ (is_none _ _ _ g r) (is_value _ _ _ g r)
+    (is_fault _ _ _ c.field-3.ensures c.in_err-delay.was))
 
 pub returns-then-below : goal.returns-then-below
 returns-then-below c =
-    link_done _ _ _ _ _ c.field-f.ensures _ c.in-Is.is _ c.field-t.ensures _ c.in-Is-t.is _ c.field-d.ensures _ c.in-Is-d.is
-    _ c.below.ensures c.if-below.true
+    let e = c.field.ensures in
+    let q = c.in_ok-from.was in
+    let g = c.field-2.ensures in
+    let r = c.in_ok-to.was in
+    let h = c.field-3.ensures in
+    let s = c.in_ok-delay.was in
+    finished
+    (whole_link _ _ _ _ _ (is_none _ _ _ e q) (is_value _ _ _ e q) _ (is_none _ _ _ g r) (is_value _ _ _ g r)
+    _ (is_none _ _ _ h s) (is_value _ _ _ h s) _ c.below.ensures c.if-below.true)
+    (link_is _ _ _ _ _ (is_none _ _ _ e q) (is_value _ _ _ e q) _ (is_none _ _ _ g r) (is_value _ _ _ g r)
+    _ (is_none _ _ _ h s) (is_value _ _ _ h s) _ c.below.ensures)
 
 pub returns : goal.returns
 returns c =
-    link_order _ _ _ _ _ c.field-f.ensures _ c.in-Is.is _ c.field-t.ensures _ c.in-Is-t.is _ c.field-d.ensures _ c.in-Is-d.is
-    _ c.below.ensures c.if-below.false c.no_link-2.ensures
+    let e = c.field.ensures in
+    let q = c.in_ok-from.was in
+    let g = c.field-2.ensures in
+    let r = c.in_ok-to.was in
+    let h = c.field-3.ensures in
+    let s = c.in_ok-delay.was in
+    broken
+    (bad_order _ _ _ _ _ (is_none _ _ _ e q) (is_value _ _ _ e q) _ (is_none _ _ _ g r) (is_value _ _ _ g r)
+    _ (is_none _ _ _ h s) (is_value _ _ _ h s) _ c.below.ensures c.if-below.false)

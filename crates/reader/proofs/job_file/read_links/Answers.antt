@@ -1,52 +1,48 @@
 -- `reader::job_file::read_links` meets its contract.
-use mathlib.Core.Path.{refl, ◌∙◌}
+use mathlib.Core.Path.{refl}
 use native.Mathlib.Omega.{arith}
 use Rattle.reader.specs.JobFile.{link_before, links_fault, links_at}
 use Rattle.reader.proofs.NumberLaws.{is_none, is_value, is_fault, is_good}
-use Rattle.reader.proofs.Chain.{stop, stopped, handed, reads_none, reads_some, reads_value}
-use Rattle.reader.proofs.ReadLoop.{read_begin, read_more, read_stop, read_end}
+use Rattle.reader.proofs.Chain.{stop, stopped, finished, reads_none, reads_some, reads_value}
+use Rattle.reader.proofs.ReadLoop.{read_begin, read_more, read_stop, read_fine, read_end}
 use Rattle.reader.proofs.LinkLaws.{before_more, behind_same}
 use Rattle.reader.proofs.job_file.read_links.Goals as goal
 
-pub returns-in_default : goal.returns-in_default
+pub returns-in_err-count : goal.returns-in_err-count
 unfolding links_fault
-returns-in_default c =
-    record {
-      count_le_max_links = omega (arith, c.no_links.ensures.1);
-      reads = stopped (stop _ (is_fault _ _ _ c.field-c.ensures c.in_default.is)) (c.no_links.ensures.0 ∙ handed c.handed_on.ensures c.in_default.is);
-    }
+returns-in_err-count c = stopped _ c.from_residual.ensures.1 (stop _ (is_fault _ _ _ c.field.ensures c.in_err-count.was))
 
 pub loop-k-init : goal.loop-k-init
 unfolding link_before
 loop-k-init c =
-    let e = c.field-c.ensures in
-    let q = c.in-Is.is in
-    (c.no_links-read.ensures.0, (is_good _ _ _ _ _ _ e q).1, refl, read_begin _ _ _ _ _ _ _ (is_none _ _ _ e q) (is_value _ _ _ e q) c.no_links-read.ensures.2)
+    let e = c.field.ensures in
+    let q = c.in_ok-count.was in
+    ((is_good _ _ _ _ _ _ e q).1, refl, read_begin _ _ _ _ _ _ _ (is_none _ _ _ e q) (is_value _ _ _ e q) refl)
 
-pub returns-in_default-answer : goal.returns-in_default-answer
+pub read_link-requires : goal.read_link-requires
+read_link-requires c = (omega (arith, c.loop-k.invariant.0), c.requires.1, c.requires.2)
+
+pub returns-in_err-before : goal.returns-in_err-before
 unfolding links_fault
-returns-in_default-answer c =
-    let told = c.in_default-answer.is in record {
-      count_le_max_links = omega (arith, c.no_links-in_default-answer.ensures.1);
-      reads = read_stop _ _ _ _ _ _ _ _ c.loop-k.invariant.3 c.loop-k-test.true
-          (reads_some (behind_same _ _ _ _ _ _ _ c.loop-k.invariant.2 c.read_link-l.ensures) told) (c.no_links-in_default-answer.ensures.0 ∙ told);
-    }
+returns-in_err-before c =
+    let l = c.loop-k.invariant in
+    let bad = reads_some c.read_link.ensures c.in_err-before.was in
+    stopped _ c.from_residual-in_err-before.ensures.1
+    (read_stop _ _ _ _ _ _ _ _ l.2 c.loop-k-test.true (behind_same _ _ _ l.1 bad))
+
+pub bounds-list-k : goal.bounds-list-k
+bounds-list-k c = omega (arith, c.loop-k.invariant.0)
 
 pub loop-k-preserved : goal.loop-k-preserved
 loop-k-preserved c =
-    let l = c.loop-k in
-    let r = behind_same _ _ _ _ _ _ _ l.invariant.2 c.read_link-l.ensures in
-    let done = c.in-Done.is in (
-      l.invariant.0,
-      l.invariant.1,
-      before_more _ _ _ _ (reads_value r done),
-      read_more _ _ _ _ _ _ _ _ l.invariant.3 _ c.loop-k-test.true (reads_none r done) (reads_value r done),
-    )
+    let l = c.loop-k.invariant in
+    let fine = reads_none c.read_link.ensures c.in_ok-before.was in
+    let value = reads_value c.read_link.ensures c.in_ok-before.was in
+    (l.0, before_more _ _ _ _ value, read_more _ _ _ _ _ _ _ _ l.2 _ c.loop-k-test.true (behind_same _ _ _ l.1 fine) value)
 
 pub returns : goal.returns
 unfolding links_fault links_at
 returns c =
-    record {
-      count_le_max_links = c.loop-k.invariant.1;
-      reads = read_end _ _ _ _ _ _ _ _ c.loop-k.invariant.3 c.loop-k.invariant.0 (omega arith);
-    }
+    let l = c.loop-k.invariant in
+    let rows = read_end _ _ _ _ _ _ _ _ l.2 (omega arith) in
+    finished (read_fine _ _ _ _ _ _ _ _ l.2 (omega arith)) (l.0, rows.0, rows.1, refl)

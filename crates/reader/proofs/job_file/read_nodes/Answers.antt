@@ -1,61 +1,50 @@
 -- `reader::job_file::read_nodes` meets its contract.
-use mathlib.Core.Path.{◌∙◌}
+use mathlib.Core.Path.{refl}
 use native.Mathlib.Omega.{arith}
 use Rattle.reader.specs.JobFile.{nodes_fault, nodes_at}
 use Rattle.reader.proofs.NumberLaws.{is_none, is_value, is_fault, is_good}
-use Rattle.reader.proofs.Chain.{stop, stopped, handed}
-use Rattle.reader.proofs.ReadLoop.{rows_begin, rows_more, rows_stop, rows_end}
+use Rattle.reader.proofs.Chain.{stop, stopped, finished, reads_none, reads_some, reads_value}
+use Rattle.reader.proofs.ReadLoop.{rows_begin, rows_more, rows_stop, rows_fine, rows_end}
 use Rattle.reader.proofs.job_file.read_nodes.Goals as goal
 
-pub returns-in_default : goal.returns-in_default
+pub returns-in_err-count : goal.returns-in_err-count
 unfolding nodes_fault
-returns-in_default c =
-    let fault = c.in_default.is in
-    let none = c.no_nodes.ensures in record {
-      count_le_max_nodes = (omega (arith, none.2), omega (arith, none.1));
-      reads = stopped (stop _ (is_fault _ _ _ c.field-c.ensures fault)) (none.0 ∙ handed c.handed_on.ensures fault);
-    }
+returns-in_err-count c = stopped _ c.from_residual.ensures.1 (stop _ (is_fault _ _ _ c.field.ensures c.in_err-count.was))
 
 pub loop-i-init : goal.loop-i-init
 loop-i-init c =
-    let e = c.field-c.ensures in
-    let q = c.in-Is.is in
-    let none = c.no_nodes-read.ensures in (
-      none.0,
+    let e = c.field.ensures in
+    let q = c.in_ok-count.was in (
       (is_good _ _ _ _ _ _ e q).1,
       omega arith,
-      omega arith,
-      rows_begin _ _ _ _ _ _ _ _ _ (is_none _ _ _ e q) (is_value _ _ _ e q) none.3,
+      rows_begin _ _ _ _ _ _ _ _ _ (is_none _ _ _ e q) (is_value _ _ _ e q) refl,
     )
 
-pub returns-in_default-answer : goal.returns-in_default-answer
+pub read_node-requires : goal.read_node-requires
+read_node-requires c = omega (arith, c.loop-i.invariant)
+
+pub returns-in_err-node : goal.returns-in_err-node
 unfolding nodes_fault
-returns-in_default-answer c =
-    let l = c.loop-i in
-    let told = c.in_default-answer.is in
-    let none = c.no_nodes-in_default-answer.ensures in record {
-      count_le_max_nodes = (omega (arith, none.2), omega (arith, none.1));
-      reads = rows_stop _ _ _ _ _ _ _ _ _ _ _ l.invariant.4 c.read_node-n.ensures.reads c.loop-i-test.true
-          told (none.0 ∙ told);
-    }
+returns-in_err-node c =
+    stopped _ c.from_residual-in_err-node.ensures.1
+    (rows_stop _ _ _ _ _ _ _ _ _ _ _ c.loop-i.invariant.2 (reads_some c.read_node.ensures c.in_err-node.was) c.loop-i-test.true)
+
+pub bounds-list-i : goal.bounds-list-i
+bounds-list-i c = omega (arith, c.loop-i.invariant)
 
 pub loop-i-preserved : goal.loop-i-preserved
 loop-i-preserved c =
-    let l = c.loop-i in
-    let node = c.read_node-n.ensures in
-    let below = c.loop-i-test.true in (
-      l.invariant.0,
-      l.invariant.1,
-      omega (arith, l.invariant.2, node.end_bound),
-      omega arith,
-      rows_more _ _ _ _ _ _ _ _ _ _ _ l.invariant.4 node.reads below c.in-Done.is,
+    let l = c.loop-i.invariant in
+    let r = c.read_node.ensures in
+    let node = reads_value r c.in_ok-node.was in (
+      l.0,
+      omega (arith, l.1, node.0),
+      rows_more _ _ _ _ _ _ _ _ _ _ _ l.2 (reads_none r c.in_ok-node.was) node.1 node.2 c.loop-i-test.true,
     )
 
 pub returns : goal.returns
 unfolding nodes_fault nodes_at
 returns c =
-    let l = c.loop-i in
-    record {
-      count_le_max_nodes = (l.invariant.1, omega (arith, l.invariant.2, l.invariant.1, l.invariant.3));
-      reads = rows_end _ _ _ _ _ _ _ _ _ _ _ l.invariant.4 l.invariant.0 (omega arith);
-    }
+    let l = c.loop-i.invariant in
+    let rows = rows_end _ _ _ _ _ _ _ _ _ _ _ l.2 (omega arith) in
+    finished (rows_fine _ _ _ _ _ _ _ _ _ _ _ l.2 (omega arith)) (l.0, omega (arith, l.0, l.1, l.2.read.most), rows.0, rows.1, rows.2)

@@ -1,10 +1,8 @@
--- What the loop of `reader::job_file::read_nodes` keeps, and what falls.
-use Prim.Native.Nat.{ℕ, ◌+◌, ◌*◌, ◌-◌, ◌≤◌}
-use mathlib.Core.Path.{◌≡◌}
+-- What the loop of `reader::job_file::read_nodes` keeps.
+use Prim.Native.Nat.{ℕ, ◌+◌, ◌*◌, ◌≤◌}
 use mathlib.Core.List.{List}
 use lib.ListN.{replicate}
 use Rattle.reader.specs.declared.job.Node.{Node}
-use Rattle.reader.specs.declared.refusal.Answer.TheVariants.{Done}
 use Rattle.reader.specs.Limits.{min_nodes, max_nodes}
 use Rattle.reader.specs.Entries.{no_node}
 use Rattle.reader.specs.Number.{number_at, count_fault}
@@ -20,7 +18,4 @@ Nodes v file =
 
 abbrev pub invariant-loop-i : goal.invariant-loop-i
 invariant-loop-i l =
-    (l.read.answer ≡ Done) × (l.count ≤ max_nodes) × (l.at ≤ 8 + 32 * l.i) × (l.i ≤ l.count) × Nodes l.version l.file l.count l.i l.at l.read.list
-
-abbrev pub decreases-loop-i : goal.decreases-loop-i
-decreases-loop-i l = l.count - l.i
+    (l.count ≤ max_nodes) × (l.end ≤ 8 + 32 * l.i) × Nodes l.version l.file l.count l.i l.end l.list

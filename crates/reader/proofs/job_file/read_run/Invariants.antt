@@ -1,5 +1,5 @@
--- What the loop of `reader::job_file::read_run` keeps, and what falls.
-use Prim.Native.Nat.{ℕ, ◌+◌, ◌*◌, ◌-◌, ◌≤◌}
+-- What the loop of `reader::job_file::read_run` keeps.
+use Prim.Native.Nat.{ℕ, ◌+◌, ◌*◌}
 use mathlib.Core.Path.{◌≡◌}
 use mathlib.Core.List.{List}
 use mathlib.Core.Option.{none}
@@ -13,7 +13,4 @@ abbrev pub Times : List ℕ → ℕ → ℕ → ℕ → List ℕ → Type 0
 Times file at p = ReadTo none p (λ i. value_fault file (at + 4 * i) 0 max_time) (λ i. number_at file (at + 4 * i)) (replicate max_nodes 0) p
 
 abbrev pub invariant-loop-i : goal.invariant-loop-i
-invariant-loop-i l = (l.i ≤ l.nodes) × ((file : List ℕ) → drop l.base file ≡ l.part → Times file l.at l.nodes l.i l.times)
-
-abbrev pub decreases-loop-i : goal.decreases-loop-i
-decreases-loop-i l = l.nodes - l.i
+invariant-loop-i l = (file : List ℕ) → drop l.base file ≡ l.part → Times file l.at l.nodes l.i l.times

@@ -1,48 +1,40 @@
 -- `reader::job_file::read_task` meets its contract.
 use native.Mathlib.Omega.{arith}
 use mathlib.Core.List.{[], ◌∷◌}
-use mathlib.Core.Path.{◌∙◌, refl}
+use mathlib.Core.Path.{refl}
 use Rattle.reader.specs.Fields.{task_fields, reaches, width_if, fault_if, value_if}
-use Rattle.reader.proofs.Chain.{handed}
-use Rattle.reader.proofs.FieldsRead.{no_fields, stops_at, stops_behind, reads_more, task_stopped, task_done}
+use Rattle.reader.proofs.Chain.{stopped, finished, reads_none, reads_some, reads_value}
+use Rattle.reader.proofs.FieldsRead.{no_fields, stops_at, stops_behind, reads_more, task_stopped, run_stopped, run_fine, task_done}
 use Rattle.reader.proofs.job_file.read_task.Goals as goal
 
-pub returns-in_default : goal.returns-in_default
+pub returns-in_err-ready-clause-by_index : goal.returns-in_err-ready-clause-by_index
 unfolding task_fields reaches
-returns-in_default c =
-    let fault = c.in_default.is in
-    let none = c.no_task.ensures in
-    let ready = c.field_if-y.ensures in
-    record {
-      end_bound = omega (arith, none.1);
-      by_index = λ file part. task_stopped _ (stops_at (ready file part) fault) (none.0 ∙ handed c.handed_on.ensures fault);
-    }
+returns-in_err-ready-clause-by_index c =
+    λ file part.
+    stopped _ c.from_residual.ensures.1 (task_stopped _ (stops_at (c.field_if.ensures file part) c.in_err-ready.was))
 
-pub returns-in_default-d : goal.returns-in_default-d
+pub returns-in_err-deadline-clause-by_index : goal.returns-in_err-deadline-clause-by_index
 unfolding task_fields reaches fault_if value_if
-returns-in_default-d c =
-    let deadline = c.field_of_part-d.ensures in
-    let width = c.width_if.ensures in
-    let y = c.in-Is.is in
-    let ready = c.field_if-y.ensures in
-    let fault = c.in_default-d.is in
-    let none = c.no_task-in_default-d.ensures in record {
-      end_bound = omega (arith, none.1);
-      by_index = λ file part. task_stopped _ (stops_behind (ready file part) y width.0 (stops_at (deadline file part) fault))
-          (none.0 ∙ handed c.handed_on-in_default-d.ensures fault);
-    }
+returns-in_err-deadline-clause-by_index c =
+    λ file part.
+    let deadline = stops_at (c.field_of_part.ensures file part) c.in_err-deadline.was in
+    stopped _ c.from_residual-in_err-deadline.ensures.1
+    (task_stopped _ (stops_behind (c.field_if.ensures file part) c.in_ok-ready.was c.width_if.ensures.0 deadline))
 
-pub returns : goal.returns
+pub returns-in_err-run-clause-by_index : goal.returns-in_err-run-clause-by_index
 unfolding task_fields reaches fault_if value_if width_if
-returns c =
-    let run = c.read_run-r.ensures in
-    let d = c.in-Is-d.is in
-    let deadline = c.field_of_part-d.ensures in
-    let width = c.width_if.ensures in
-    let y = c.in-Is.is in
-    let ready = c.field_if-y.ensures in record {
-      end_bound = omega (arith, width.1, c.requires.2);
-      by_index = λ file part.
-          let fields = reads_more (ready file part) y width.0 (reads_more (deadline file part) d refl no_fields) in
-          task_done _ (_ ∷ _ ∷ []) fields _ (run file part);
-    }
+returns-in_err-run-clause-by_index c =
+    λ file part.
+    let deadline = reads_more (c.field_of_part.ensures file part) c.in_ok-deadline.was refl no_fields in
+    let fields = reads_more (c.field_if.ensures file part) c.in_ok-ready.was c.width_if.ensures.0 deadline in
+    stopped _ c.from_residual-in_err-run.ensures.1
+    (run_stopped _ (_ ∷ _ ∷ []) fields (reads_some (c.read_run.ensures file part) c.in_err-run.was))
+
+pub returns-clause-by_index : goal.returns-clause-by_index
+unfolding task_fields reaches fault_if value_if width_if
+returns-clause-by_index c =
+    λ file part.
+    let deadline = reads_more (c.field_of_part.ensures file part) c.in_ok-deadline.was refl no_fields in
+    let fields = reads_more (c.field_if.ensures file part) c.in_ok-ready.was c.width_if.ensures.0 deadline in
+    let run = c.read_run.ensures file part in
+    finished (run_fine _ (_ ∷ _ ∷ []) fields (reads_none run c.in_ok-run.was)) (task_done _ (_ ∷ _ ∷ []) fields (reads_value run c.in_ok-run.was))

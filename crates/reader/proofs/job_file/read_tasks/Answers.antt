@@ -1,69 +1,65 @@
 -- `reader::job_file::read_tasks` meets its contract.
-use mathlib.Core.Path.{◌∙◌}
+use mathlib.Core.List.{List}
+use mathlib.Core.Path.{◌≡◌, refl}
+use lib.ListN.{drop}
+use Prim.Native.Nat.{ℕ}
 use native.Mathlib.Omega.{arith}
 use Rattle.reader.specs.JobFile.{tasks_fault, tasks_at}
 use Rattle.reader.proofs.NumberLaws.{is_none, is_value, is_fault, is_good, some_file}
-use Rattle.reader.proofs.Chain.{stop, stopped, handed}
-use Rattle.reader.proofs.ReadLoop.{rows_begin, rows_more, rows_stop, rows_end}
+use Rattle.reader.proofs.Chain.{stop, stopped, finished, reads_none, reads_some, reads_value}
+use Rattle.reader.proofs.ReadLoop.{rows_begin, rows_more, rows_stop, rows_fine, rows_end}
 use Rattle.reader.proofs.job_file.read_tasks.Goals as goal
 
-pub returns-in_default : goal.returns-in_default
+pub returns-in_err-count-clause-by_index : goal.returns-in_err-count-clause-by_index
 unfolding tasks_fault
-returns-in_default c =
-    let fault = c.in_default.is in
-    let none = c.no_tasks.ensures in record {
-      count_le_max_tasks = (omega (arith, none.2), omega (arith, none.1));
-      by_index = λ file part.
-          stopped (stop _ (is_fault _ _ _ (c.field_of_part-c.ensures file part) fault))
-          (none.0 ∙ handed c.handed_on.ensures fault);
-    }
+returns-in_err-count-clause-by_index c =
+    λ file part.
+    stopped _ c.from_residual.ensures.1 (stop _ (is_fault _ _ _ (c.field_of_part.ensures file part) c.in_err-count.was))
 
 pub loop-i-init : goal.loop-i-init
 loop-i-init c =
-    let e = c.field_of_part-c.ensures in
-    let q = c.in-Is.is in
-    let args = c.args in
-    let none = c.no_tasks-read.ensures in (
-      none.0,
+    let e = c.field_of_part.ensures in
+    let q = c.in_ok-count.was in
+    let args = c.args in (
       (is_good _ _ _ _ _ _ (e _ (some_file args.base args.part.now)) q).1,
       omega arith,
       omega arith,
-      omega arith,
-      λ file part. rows_begin _ _ _ _ _ _ _ _ _ (is_none _ _ _ (e file part) q) (is_value _ _ _ (e file part) q) none.3,
+      λ file part. rows_begin _ _ _ _ _ _ _ _ _ (is_none _ _ _ (e file part) q) (is_value _ _ _ (e file part) q) refl,
     )
 
-pub returns-in_default-answer : goal.returns-in_default-answer
+pub read_task-requires : goal.read_task-requires
+read_task-requires c = omega (arith, c.loop-i.invariant, c.requires)
+
+pub returns-in_err-task-clause-by_index : goal.returns-in_err-task-clause-by_index
 unfolding tasks_fault
-returns-in_default-answer c =
-    let l = c.loop-i in
-    let told = c.in_default-answer.is in
-    let none = c.no_tasks-in_default-answer.ensures in record {
-      count_le_max_tasks = (omega (arith, none.2), omega (arith, none.1));
-      by_index = λ file part.
-          rows_stop _ _ _ _ _ _ _ _ _ _ _ (l.invariant.5 file part) (c.read_task-t.ensures.by_index file part)
-          c.loop-i-test.true told (none.0 ∙ told);
-    }
+returns-in_err-task-clause-by_index c =
+    λ file part.
+    stopped _ c.from_residual-in_err-task.ensures.1
+    (rows_stop _ _ _ _ _ _ _ _ _ _ _ (c.loop-i.invariant.3 file part) (reads_some (c.read_task.ensures.by_index file part) c.in_err-task.was)
+    c.loop-i-test.true)
+
+pub bounds-list-i : goal.bounds-list-i
+bounds-list-i c = omega (arith, c.loop-i.invariant.0)
 
 pub loop-i-preserved : goal.loop-i-preserved
 loop-i-preserved c =
-    let l = c.loop-i in
-    let task = c.read_task-t.ensures in
+    let l = c.loop-i.invariant in
+    let task = c.read_task.ensures in
     let below = c.loop-i-test.true in
     let args = c.args in
     let some = some_file args.base args.part.now in
-    let done = c.in-Done.is in (
-      l.invariant.0,
-      l.invariant.1,
-      omega (arith, (rows_more _ _ _ _ _ _ _ _ _ _ _ (l.invariant.5 _ some) (task.by_index _ some) below done).here),
-      omega (arith, l.invariant.3, task.end_bound),
-      omega arith,
-      λ file part. rows_more _ _ _ _ _ _ _ _ _ _ _ (l.invariant.5 file part) (task.by_index file part) below done,
-    )
+    let rows = λ (file : List ℕ) (part : drop args.base file ≡ args.part.now).
+    let read = task.by_index file part in
+    let value = reads_value read c.in_ok-task.was in
+    rows_more _ _ _ _ _ _ _ _ _ _ _ (l.3 file part) (reads_none read c.in_ok-task.was) value.0 value.1 below in
+    (l.0, omega (arith, (rows _ some).here), omega (arith, l.2, c.in_ok-task.ensures.end_bound), rows)
 
-pub returns : goal.returns
+pub returns-clause-count_le_max_tasks : goal.returns-clause-count_le_max_tasks
+returns-clause-count_le_max_tasks c = omega (arith, c.loop-i.invariant.0, c.loop-i.invariant.2)
+
+pub returns-clause-by_index : goal.returns-clause-by_index
 unfolding tasks_fault tasks_at
-returns c =
-    let l = c.loop-i in record {
-      count_le_max_tasks = (l.invariant.1, omega (arith, l.invariant.1, l.invariant.3, l.invariant.4));
-      by_index = λ file part. rows_end _ _ _ _ _ _ _ _ _ _ _ (l.invariant.5 file part) l.invariant.0 (omega arith);
-    }
+returns-clause-by_index c =
+    λ file part.
+    let l = c.loop-i.invariant.3 file part in
+    finished (rows_fine _ _ _ _ _ _ _ _ _ _ _ l (omega arith)) (rows_end _ _ _ _ _ _ _ _ _ _ _ l (omega arith))

@@ -1,10 +1,9 @@
--- What the loop of `reader::job_file::read_tasks` keeps, and what falls.
-use Prim.Native.Nat.{ℕ, ◌+◌, ◌*◌, ◌-◌, ◌≤◌}
+-- What the loop of `reader::job_file::read_tasks` keeps.
+use Prim.Native.Nat.{ℕ, ◌+◌, ◌*◌, ◌≤◌}
 use mathlib.Core.Path.{◌≡◌}
 use mathlib.Core.List.{List}
 use lib.ListN.{drop, replicate}
 use Rattle.reader.specs.declared.job.Task.{Task}
-use Rattle.reader.specs.declared.refusal.Answer.TheVariants.{Done}
 use Rattle.reader.specs.Limits.{min_tasks, max_tasks}
 use Rattle.reader.specs.Entries.{blank_task}
 use Rattle.reader.specs.Number.{number_at, count_fault}
@@ -19,12 +18,7 @@ Tasks v file base p =
 
 abbrev pub invariant-loop-i : goal.invariant-loop-i
 invariant-loop-i l =
-    (l.read.answer ≡ Done)
-    × (l.count ≤ max_tasks)
-    × (l.base ≤ l.at)
-    × (l.at ≤ l.base + 4 + 96 * l.i)
-    × (l.i ≤ l.count)
-    × ((file : List ℕ) → drop l.base file ≡ l.part → Tasks l.version file l.base l.nodes l.count l.i l.at l.read.list)
-
-abbrev pub decreases-loop-i : goal.decreases-loop-i
-decreases-loop-i l = l.count - l.i
+    (l.count ≤ max_tasks)
+    × (l.base ≤ l.end)
+    × (l.end ≤ l.base + 4 + 96 * l.i)
+    × ((file : List ℕ) → drop l.base file ≡ l.part → Tasks l.version file l.base l.nodes l.count l.i l.end l.list)

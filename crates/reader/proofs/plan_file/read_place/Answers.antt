@@ -1,50 +1,49 @@
 -- `reader::plan_file::read_place` meets its contract.
-use mathlib.Core.Path.{refl, ◌∙◌}
+use mathlib.Core.Path.{◌∙◌}
 use Rattle.reader.specs.PlanFile.{place_fault}
 use Rattle.reader.proofs.NumberLaws.{is_none, is_value, is_fault}
-use Rattle.reader.proofs.Chain.{pass, stop, stopped, finished, handed}
+use Rattle.reader.proofs.Chain.{pass, stop, stopped, finished}
 use Rattle.reader.proofs.PlaceLaws.{place_is}
 use Rattle.reader.proofs.plan_file.read_place.Goals as goal
 
-pub returns-in_default : goal.returns-in_default
+pub returns-in_err-primary_node : goal.returns-in_err-primary_node
 unfolding place_fault
-returns-in_default c =
-    stopped (stop _ (is_fault _ _ _ c.read_node-a.ensures c.in_default.is)) (handed c.no_place.ensures c.in_default.is)
+returns-in_err-primary_node c = stopped _ c.from_residual.ensures.1 (stop _ (is_fault _ _ _ c.read_node.ensures c.in_err-primary_node.was))
 
-pub returns-in_default-b : goal.returns-in_default-b
+pub returns-in_err-primary_start : goal.returns-in_err-primary_start
 unfolding place_fault
-returns-in_default-b c =
-    stopped
-    (pass _ (is_none _ _ _ c.read_node-a.ensures c.in-Is.is) ∙ stop _ (is_fault _ _ _ c.field-b.ensures c.in_default-b.is))
-    (handed c.no_place-in_default-b.ensures c.in_default-b.is)
+returns-in_err-primary_start c =
+    stopped _ c.from_residual-in_err-primary_start.ensures.1
+    (pass _ (is_none _ _ _ c.read_node.ensures c.in_ok-primary_node.was) ∙ stop _ (is_fault _ _ _ c.field.ensures c.in_err-primary_start.was))
 
-pub returns-in_default-c : goal.returns-in_default-c
+pub returns-in_err-backup_node : goal.returns-in_err-backup_node
 unfolding place_fault
-returns-in_default-c c =
-    stopped
-    (pass _ (is_none _ _ _ c.read_node-a.ensures c.in-Is.is)
-    ∙ pass _ (is_none _ _ _ c.field-b.ensures c.in-Is-b.is)
-    ∙ stop _ (is_fault _ _ _ c.read_node-c.ensures c.in_default-c.is))
-    (handed c.no_place-in_default-c.ensures c.in_default-c.is)
+returns-in_err-backup_node c =
+    stopped _ c.from_residual-in_err-backup_node.ensures.1
+    (pass _ (is_none _ _ _ c.read_node.ensures c.in_ok-primary_node.was)
+    ∙ pass _ (is_none _ _ _ c.field.ensures c.in_ok-primary_start.was)
+    ∙ stop _ (is_fault _ _ _ c.read_node-2.ensures c.in_err-backup_node.was))
 
-pub returns-in_default-d : goal.returns-in_default-d
+pub returns-in_err-backup_start : goal.returns-in_err-backup_start
 unfolding place_fault
-returns-in_default-d c =
-    stopped
-    (pass _ (is_none _ _ _ c.read_node-a.ensures c.in-Is.is)
-    ∙ pass _ (is_none _ _ _ c.field-b.ensures c.in-Is-b.is)
-    ∙ pass _ (is_none _ _ _ c.read_node-c.ensures c.in-Is-c.is)
-    ∙ is_fault _ _ _ c.field-d.ensures c.in_default-d.is)
-    (handed c.no_place-in_default-d.ensures c.in_default-d.is)
+returns-in_err-backup_start c =
+    stopped _ c.from_residual-in_err-backup_start.ensures.1
+    (pass _ (is_none _ _ _ c.read_node.ensures c.in_ok-primary_node.was)
+    ∙ pass _ (is_none _ _ _ c.field.ensures c.in_ok-primary_start.was)
+    ∙ pass _ (is_none _ _ _ c.read_node-2.ensures c.in_ok-backup_node.was)
+    ∙ is_fault _ _ _ c.field-2.ensures c.in_err-backup_start.was)
 
 pub returns : goal.returns
 unfolding place_fault
 returns c =
+    let a = c.read_node.ensures in
+    let b = c.field.ensures in
+    let p = c.read_node-2.ensures in
+    let d = c.field-2.ensures in
     finished
-    (pass _ (is_none _ _ _ c.read_node-a.ensures c.in-Is.is)
-    ∙ pass _ (is_none _ _ _ c.field-b.ensures c.in-Is-b.is)
-    ∙ pass _ (is_none _ _ _ c.read_node-c.ensures c.in-Is-c.is)
-    ∙ is_none _ _ _ c.field-d.ensures c.in-Is-d.is)
-    refl
-    (place_is _ _ (is_value _ _ _ c.read_node-a.ensures c.in-Is.is) (is_value _ _ _ c.field-b.ensures c.in-Is-b.is)
-    (is_value _ _ _ c.read_node-c.ensures c.in-Is-c.is) (is_value _ _ _ c.field-d.ensures c.in-Is-d.is))
+    (pass _ (is_none _ _ _ a c.in_ok-primary_node.was)
+    ∙ pass _ (is_none _ _ _ b c.in_ok-primary_start.was)
+    ∙ pass _ (is_none _ _ _ p c.in_ok-backup_node.was)
+    ∙ is_none _ _ _ d c.in_ok-backup_start.was)
+    (place_is _ _ (is_value _ _ _ a c.in_ok-primary_node.was) (is_value _ _ _ b c.in_ok-primary_start.was)
+    (is_value _ _ _ p c.in_ok-backup_node.was) (is_value _ _ _ d c.in_ok-backup_start.was))

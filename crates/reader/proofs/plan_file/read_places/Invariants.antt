@@ -1,5 +1,5 @@
--- What the loop of `reader::plan_file::read_places` keeps, and what falls.
-use Prim.Native.Nat.{ℕ, ◌+◌, ◌*◌, ◌-◌}
+-- What the loop of `reader::plan_file::read_places` keeps.
+use Prim.Native.Nat.{ℕ, ◌+◌, ◌*◌}
 use mathlib.Core.List.{List}
 use mathlib.Core.Option.{none}
 use lib.ListN.{get_or, replicate}
@@ -18,6 +18,3 @@ Places file list nodes count =
 
 abbrev pub invariant-loop-j : goal.invariant-loop-j
 invariant-loop-j l = Places l.file l.tasks l.nodes l.count l.j l.list
-
-abbrev pub decreases-loop-j : goal.decreases-loop-j
-decreases-loop-j l = l.count - l.j
