@@ -13,7 +13,7 @@ use Rattle.reader.specs.declared.plan.Plan.{Plan}
 use Rattle.rules.specs.declared.Description.{Description}
 use Rattle.reader.specs.declared.refusal.Refusal.{Refusal}
 use Rattle.reader.specs.declared.refusal.Refusal.TheVariants.{Stale}
-use Rattle.reader.specs.declared.refusal.Answer.TheVariants.{Done}
+use Rattle.std.specs.Prelude.{Ok}
 use Rattle.reader.specs.Limits.{max_tasks, max_start}
 use Rattle.reader.specs.Entries.{tasks, deadline, run, place, no_place}
 use Rattle.reader.specs.Sound.{Sound}
@@ -95,19 +95,19 @@ module _ (job : Job) (plan : Plan) (d : Description) (new : NewSound job d) (roo
   pub new_row : (x : Place) → rows big (longer_plan job plan x) n ≡ row_of big t n x
   new_row x = ap (λ u. u n) (longer_rows x) ∙ put_same t n _
 
-  module _ (sound : Sound job) (passed : judge job plan ≡ Done) (x : Place) where
+  module _ (sound : Sound job) (passed : judge job plan ≡ Ok tt) (x : Place) where
     abbrev r : Row
     r = row_of big t n x
 
     -- (e) the longer pair passes exactly if the new copies keep all rules beside the others
-    pub longer_passes : (judge big (longer_plan job plan x) ≡ Done) ↔ RowKept big t n r
+    pub longer_passes : (judge big (longer_plan job plan x) ≡ Ok tt) ↔ RowKept big t n r
     longer_passes = (
       λ h. last_kept job big ext (longer_sound job d room new sound) t r (subst (Kept big) (longer_rows x) ((judge_done _ _).0 h)),
       λ k. (judge_done _ _).1
           (subst (Kept big) (sym (longer_rows x)) (one_more job big ext (longer_sound job d room new sound) t r ((judge_done job plan).0 passed) k)),
     )
 
-    no_breach_done : (breach big (rows big (longer_plan job plan x)) ≡ none) ↔ (judge big (longer_plan job plan x) ≡ Done)
+    no_breach_done : (breach big (rows big (longer_plan job plan x)) ≡ none) ↔ (judge big (longer_plan job plan x) ≡ Ok tt)
     unfolding judge
     no_breach_done = (λ h. (answered_done _).1 h, λ h. (answered_done _).0 h)
 
@@ -177,7 +177,7 @@ module _ (job : Job) (plan : Plan) (d : Description) (new : NewSound job d) (roo
           omega (arith, a.ends_in_time, new.task.deadline_most)
 
   -- (b) 'With no commit between, an asked place is always booked'
-  pub asked_booked : Sound job → judge job plan ≡ Done → (x : Place) → ask job plan d ≡ placed x
+  pub asked_booked : Sound job → judge job plan ≡ Ok tt → (x : Place) → ask job plan d ≡ placed x
       → commit job plan d x ≡ placed (longer job plan d x)
   asked_booked sound passed x h =
       asked x h λ s hs k e is.

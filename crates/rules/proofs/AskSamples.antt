@@ -2,7 +2,7 @@
 use mathlib.Core.Path.{◌≡◌, refl}
 use Rattle.reader.specs.declared.refusal.Refusal.TheVariants.{NoBackup, Stale}
 use Rattle.reader.specs.Sound.{below}
-use Rattle.reader.specs.declared.refusal.Answer.TheVariants.{Done}
+use Rattle.std.specs.Prelude.{Ok}
 use Rattle.reader.specs.Samples.{at, J, JSending, plan1}
 use Rattle.rules.specs.Judge.{judge}
 use Rattle.rules.specs.Attempts.{refused, placed}
@@ -39,7 +39,7 @@ unfolding computed below takes_new new_before merged_link longer_job longer_plan
 stale_third = refl
 
 -- a place asked for while task 1 stood a tick later: asking anew gives another, but it keeps the rules, and is booked
-pub moved_third : (judge J plan_later ≡ Done) × (ask J plan_later (third 30) ≡ placed (at 0 8 1 13))
+pub moved_third : (judge J plan_later ≡ Ok tt) × (ask J plan_later (third 30) ≡ placed (at 0 8 1 13))
     × (commit J plan1 (third 30) (at 0 8 1 13) ≡ placed (with_third (at 0 8 1 13)))
     × (commit_if_asked J plan1 (third 30) (at 0 8 1 13) ≡ refused (Stale 2))
 unfolding computed below takes_new new_before merged_link longer_job longer_plan longer unless_stale ask commit

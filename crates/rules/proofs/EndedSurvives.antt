@@ -7,7 +7,7 @@ use native.Mathlib.Omega.{arith}
 use Rattle.reader.specs.declared.job.Job.{Job}
 use Rattle.reader.specs.declared.job.Link.{Link}
 use Rattle.reader.specs.declared.plan.Plan.{Plan}
-use Rattle.reader.specs.declared.refusal.Answer.TheVariants.{Done}
+use Rattle.std.specs.Prelude.{Ok}
 use Rattle.reader.specs.Entries.{tasks, links, detect, run, link}
 use Rattle.reader.specs.Sound.{Sound, PlanSound}
 use Rattle.reader.proofs.TestLaws.{clash, not_true}
@@ -128,7 +128,7 @@ module _ (job : Job) (plan : Plan) (times : Times) (fits : TimesSound job plan t
 
   module _ (sound : Sound job) where
     -- 'A passed plan must outlive any one group's loss for every such list, with no overlap, no late task and no unfed backup called for.'
-    pub passed_survives_times : PlanSound job plan → judge job plan ≡ Done → (loss : Loss) → LossOf job loss
+    pub passed_survives_times : PlanSound job plan → judge job plan ≡ Ok tt → (loss : Loss) → LossOf job loss
         → Survives job (ended_rows job plan times) loss (replay_times job plan times loss)
     unfolding replay_times
     passed_survives_times plan_sound passed loss of_job =

@@ -8,7 +8,7 @@ use native.Mathlib.Omega.{arith}
 use Rattle.reader.specs.declared.job.Job.{Job}
 use Rattle.reader.specs.declared.plan.Plan.{Plan}
 use Rattle.reader.specs.declared.refusal.Refusal.{Refusal}
-use Rattle.reader.specs.declared.refusal.Answer.TheVariants.{Done, Refused}
+use Rattle.std.specs.Prelude.{Ok, Err}
 use Rattle.reader.specs.First.{◌or_else◌, first}
 use Rattle.reader.specs.Entries.{tasks, links}
 use Rattle.reader.specs.Refusals.{tell}
@@ -97,12 +97,12 @@ module _ (job : Job) (t : ℕ → Row) where
   )
 
 module _ (job : Job) (plan : Plan) where
-  pub judge_done : (judge job plan ≡ Done) ↔ Kept job (rows job plan)
+  pub judge_done : (judge job plan ≡ Ok tt) ↔ Kept job (rows job plan)
   unfolding judge
   judge_done =
       (λ h. (no_breach job _).0 ((answered_done _).0 h), λ k. (answered_done _).1 ((no_breach job _).1 k))
 
-  pub judge_refused : (r : Refusal) → (judge job plan ≡ Refused r) ↔ FirstBreach job (rows job plan) r
+  pub judge_refused : (r : Refusal) → (judge job plan ≡ Err r) ↔ FirstBreach job (rows job plan) r
   unfolding judge
   judge_refused r =
       (λ h. (first_breach job _ r).0 ((answered_refused _ r).0 h), λ b. (answered_refused _ r).1 ((first_breach job _ r).1 b))

@@ -6,7 +6,7 @@ use borrow.Author.Tests.{leb-true, eq-eqb}
 use native.Mathlib.Omega.{arith}
 use Rattle.reader.specs.declared.job.Job.{Job}
 use Rattle.reader.specs.declared.plan.Plan.{Plan}
-use Rattle.reader.specs.declared.refusal.Answer.TheVariants.{Done}
+use Rattle.std.specs.Prelude.{Ok}
 use Rattle.reader.specs.Entries.{tasks, link}
 use Rattle.reader.specs.Sound.{Sound, PlanSound}
 use Rattle.reader.proofs.TestLaws.{clash, and_l, and_r, imp_e, not_e}
@@ -64,16 +64,16 @@ planned_runs job plan s j primary p = rw (row_primary job plan (tasks job) j p) 
 planned_runs job plan s j backup p = rw (row_backup job plan (tasks job) j p) (omega (arith, s.backup_able j p))
 
 -- a plan that reads well and is passed is firm
-pub passed_firm : (job : Job) (plan : Plan) → Sound job → PlanSound job plan → judge job plan ≡ Done
+pub passed_firm : (job : Job) (plan : Plan) → Sound job → PlanSound job plan → judge job plan ≡ Ok tt
     → Firm job (rows job plan) (λ j. (rows job plan j).faults) 0
 passed_firm job plan sound plan_sound passed =
     kept_firm job _ (rows_faults job sound plan) (planned_runs job plan plan_sound) sound ((judge_done job plan).0 passed)
 
-pub passed_clear : (job : Job) (plan : Plan) → Sound job → judge job plan ≡ Done → Clear job (rows job plan) (λ j. (rows job plan j).faults)
+pub passed_clear : (job : Job) (plan : Plan) → Sound job → judge job plan ≡ Ok tt → Clear job (rows job plan) (λ j. (rows job plan j).faults)
 passed_clear job plan sound passed = kept_clear job sound _ ((judge_done job plan).0 passed)
 
 -- so it survives: with no loss, and with any group of the job lost at any tick
-pub passed_survives : (job : Job) (plan : Plan) → Sound job → PlanSound job plan → judge job plan ≡ Done
+pub passed_survives : (job : Job) (plan : Plan) → Sound job → PlanSound job plan → judge job plan ≡ Ok tt
     → (loss : Loss) → LossOf job loss → Survives job (rows job plan) loss (replay job plan loss)
 unfolding replay
 passed_survives job plan sound plan_sound passed loss of_job =

@@ -8,7 +8,7 @@ use native.Mathlib.Nat.{not-suc-le-zero}
 use native.Mathlib.Omega.{arith}
 use Rattle.reader.specs.declared.job.Job.{Job}
 use Rattle.reader.specs.declared.plan.Plan.{Plan}
-use Rattle.reader.specs.declared.refusal.Answer.TheVariants.{Done}
+use Rattle.std.specs.Prelude.{Ok}
 use Rattle.reader.specs.declared.plan.Place.{Place}
 use Rattle.reader.specs.First.{fill}
 use Rattle.reader.specs.Limits.{max_tasks}
@@ -164,7 +164,7 @@ module _ (job : Job) (sound : Sound job) where
     pub with_sound : PlanSound job plan
     with_sound = from_table λ t ht table e. subst (PlanSound job) e (reads t table.keeps)
 
-    pub with_passes : judge job plan ≡ Done
+    pub with_passes : judge job plan ≡ Ok tt
     with_passes =
         from_table λ t ht table e.
         (judge_done job plan).1 (subst (Kept job) (sym (planned_rows t plan table e)) (table_kept t table.keeps))
@@ -183,7 +183,7 @@ module _ (job : Job) (sound : Sound job) where
     unfolding planner
     planned_sound = with_sound anywhere plan h
 
-    pub planned_passes : judge job plan ≡ Done
+    pub planned_passes : judge job plan ≡ Ok tt
     unfolding planner
     planned_passes = with_passes anywhere plan h
 

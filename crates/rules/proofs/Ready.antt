@@ -6,7 +6,7 @@ use borrow.Author.Tests.{leb-true, le-leb}
 use native.Mathlib.Omega.{arith}
 use Rattle.reader.specs.declared.job.Job.{Job}
 use Rattle.reader.specs.declared.plan.Plan.{Plan}
-use Rattle.reader.specs.declared.refusal.Answer.TheVariants.{Done}
+use Rattle.std.specs.Prelude.{Ok}
 use Rattle.reader.specs.Tests.{◌and◌}
 use Rattle.reader.specs.Limits.{ready_since}
 use Rattle.reader.specs.Entries.{tasks, ready, place}
@@ -29,7 +29,7 @@ module _ (job : Job) (plan : Plan) (j : ℕ) (below : j < tasks job) where
   unfolding rule_ready copy
   ready_place h = leb-true _ _ (rw (row_primary job plan (tasks job) j below) at h)
 
-  pub passed_ready : judge job plan ≡ Done → ready job j ≤ (place plan j).primary_start
+  pub passed_ready : judge job plan ≡ Ok tt → ready job j ≤ (place plan j).primary_start
   passed_ready passed = ready_place (((judge_done job plan).0 passed).ready j below)
 
   pub planned_ready : Sound job → planner job ≡ placed plan → ready job j ≤ (place plan j).primary_start

@@ -5,7 +5,7 @@ use mathlib.Core.Path.{◌≡◌, sym, ◌∙◌, ap}
 use borrow.Author.Tests.{eq-eqb}
 use Rattle.reader.specs.declared.job.Job.{Job}
 use Rattle.reader.specs.declared.plan.Plan.{Plan}
-use Rattle.reader.specs.declared.refusal.Answer.TheVariants.{Done}
+use Rattle.std.specs.Prelude.{Ok}
 use Rattle.reader.specs.Entries.{nodes, tasks}
 use Rattle.reader.specs.Sound.{Sound, PlanSound}
 use Rattle.reader.proofs.TestLaws.{clash, not_e}
@@ -19,13 +19,13 @@ use Rattle.rules.proofs.JudgeLaws.{judge_done}
 use Rattle.rules.proofs.PlannedPasses.{planned_sound, planned_passes}
 
 -- of a plan that passes
-pub groups_apart : (job : Job) (plan : Plan) → judge job plan ≡ Done → (j : ℕ) → j < tasks job
+pub groups_apart : (job : Job) (plan : Plan) → judge job plan ≡ Ok tt → (j : ℕ) → j < tasks job
     → domain job (rows job plan j).primary.node ≡ domain job (rows job plan j).backup.node → ⊥
 unfolding rule_a
 groups_apart job plan passed j low e = clash _ (eq-eqb _ _ e) (not_e _ (((judge_done job plan).0 passed).a j low))
 
 module _ (job : Job) (sound : Sound job) (q : ℕ) (one : (n : ℕ) → n < nodes job → domain job n ≡ q) where
-  pub one_supply_fails : (plan : Plan) → PlanSound job plan → judge job plan ≡ Done → ⊥
+  pub one_supply_fails : (plan : Plan) → PlanSound job plan → judge job plan ≡ Ok tt → ⊥
   unfolding copy
   one_supply_fails plan reads passed =
       let low : 0 < tasks job = omega (arith, sound.tasks_least) in

@@ -7,7 +7,7 @@ use native.Mathlib.Decide.{dec_lt}
 use Rattle.reader.specs.declared.job.Job.{Job}
 use Rattle.reader.specs.declared.plan.Plan.{Plan}
 use Rattle.reader.specs.declared.refusal.Refusal.{Refusal}
-use Rattle.reader.specs.declared.refusal.Answer.TheVariants.{Done, Refused}
+use Rattle.std.specs.Prelude.{Ok, Err}
 use Rattle.reader.specs.Entries.{tasks}
 use Rattle.reader.specs.Refusals.{tell}
 use Rattle.reader.specs.Sound.{Sound, PlanSound}
@@ -70,7 +70,7 @@ module _ (job : Job) (plan : Plan) (sound : Sound job) (plan_sound : PlanSound j
       w.primaries (w.good NoLoss tt) (λ j p. w.good _ (planned_loss job plan plan_sound j p))
 
   -- one that the judge passes is accepted, whatever shares time
-  pub passed_trial : judge job plan ≡ Done → Trial job plan
+  pub passed_trial : judge job plan ≡ Ok tt → Trial job plan
   unfolding replay started
   passed_trial h =
       let k = (judge_done job plan).0 h in
@@ -82,11 +82,11 @@ module _ (job : Job) (plan : Plan) (sound : Sound job) (plan_sound : PlanSound j
       }
 
   -- 'On plans in which no primary overlaps any backup placed on the same node, the trial and the judge must agree, yes for yes and no for no.'
-  pub trial_agrees : NoSharing job plan → Trial job plan ↔ (judge job plan ≡ Done)
+  pub trial_agrees : NoSharing job plan → Trial job plan ↔ (judge job plan ≡ Ok tt)
   trial_agrees apart = (λ w. (judge_done job plan).1 (apart_kept job plan apart (trial_keeps w)), passed_trial)
 
   -- what the trial accepts and the judge does not is refused as overlap
-  pub trial_refused : Trial job plan → (r : Refusal) → judge job plan ≡ Refused r → (tell r).number ≡ 14
+  pub trial_refused : Trial job plan → (r : Refusal) → judge job plan ≡ Err r → (tell r).number ≡ 14
   trial_refused w r refused =
       let b = (judge_refused job plan r).0 refused in
       elim (dec_lt b.rule 7) [

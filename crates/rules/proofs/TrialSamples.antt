@@ -2,7 +2,7 @@
 use mathlib.Core.Bool.{true, false}
 use mathlib.Core.Path.{◌≡◌, refl}
 use Rattle.reader.specs.declared.refusal.Refusal.TheVariants.{Overlap}
-use Rattle.reader.specs.declared.refusal.Answer.TheVariants.{Refused}
+use Rattle.std.specs.Prelude.{Err}
 use Rattle.reader.specs.Samples.{J, JReady, JWithoutLink, plan1}
 use Rattle.rules.specs.Judge.{judge}
 use Rattle.rules.specs.Trial.{meet, clear, done_by, good_run, good_under, tried_under, Trial, tried}
@@ -21,7 +21,7 @@ unfolding tested
 trial_samples = refl
 
 -- time shared by a primary and a backup, at every moment whatever
-pub sharing_accepted : (judge J shared_plan ≡ Refused (Overlap 0 1)) × Trial J shared_plan
+pub sharing_accepted : (judge J shared_plan ≡ Err (Overlap 0 1)) × Trial J shared_plan
 unfolding tested
 sharing_accepted = (refl, (tried_is J shared_plan sound_j (plan_sound_j shared_plan refl refl refl refl)).0 refl)
 

@@ -10,7 +10,7 @@ use Rattle.reader.specs.declared.job.Job.{Job}
 use Rattle.reader.specs.declared.job.Link.{Link}
 use Rattle.reader.specs.declared.plan.Plan.{Plan}
 use Rattle.reader.specs.declared.refusal.Refusal.TheVariants.{BackupUnfed, CommonLoss, NoBackup}
-use Rattle.reader.specs.declared.refusal.Answer.TheVariants.{Done, Refused}
+use Rattle.std.specs.Prelude.{Ok, Err}
 use Rattle.reader.specs.Tests.{◌implies◌}
 use Rattle.reader.specs.Entries.{link}
 use Rattle.reader.specs.Refusals.{answered}
@@ -66,23 +66,23 @@ module _ (job : Job) (plan : Plan) where
       (λ e. (found_none job (check job t n)).0 (rw e at h))
 
   -- no plan that passed under E of document 01 is turned down
-  pub still_passed : judge_by waits_for_both job plan ≡ Done → judge job plan ≡ Done
+  pub still_passed : judge_by waits_for_both job plan ≡ Ok tt → judge job plan ≡ Ok tt
   unfolding judge_by judge
   still_passed passed =
       (answered_done _).1
       (sym (breach_first job t) ∙ first_none 8 _ λ n p. (found_none job (check job t n)).1 (holds n (none_first 8 _ ((answered_done _).0 passed) n p)))
 
 -- sample 8 did not pass
-pub sample_eight : (judge_by waits_for_both (JWithDelay 6) plan8 ≡ Refused (BackupUnfed 0 1)) × (judge (JWithDelay 6) plan8 ≡ Done)
+pub sample_eight : (judge_by waits_for_both (JWithDelay 6) plan8 ≡ Err (BackupUnfed 0 1)) × (judge (JWithDelay 6) plan8 ≡ Ok tt)
 unfolding computed waits_for_both judge_by
 sample_eight = (refl, refl)
 
 -- passed by each of three that ask too little, refused 12 by the rules; the loss leaves task 1 without a finished copy
 pub fewer_waits :
-    (judge_by never_waits J weak_plan ≡ Done)
-    × (judge_by waits_by_primaries J weak_plan ≡ Done)
-    × (judge_by waits_by_earlier J weak_plan ≡ Done)
-    × (judge J weak_plan ≡ Refused (BackupUnfed 0 1))
+    (judge_by never_waits J weak_plan ≡ Ok tt)
+    × (judge_by waits_by_primaries J weak_plan ≡ Ok tt)
+    × (judge_by waits_by_earlier J weak_plan ≡ Ok tt)
+    × (judge J weak_plan ≡ Err (BackupUnfed 0 1))
     × (written J weak_plan (Lost 0 3) 1 ≡ wrote 0 0 0)
     × (Survives J (rows J weak_plan) (Lost 0 3) (replay J weak_plan (Lost 0 3)) → ⊥)
 unfolding computed judge_by never_waits waits_by_primaries waits_by_earlier
@@ -91,26 +91,26 @@ fewer_waits = (refl, refl, refl, refl, refl, λ s. let b : 1 ≤ 0 = s.finish_le
 -- the last backup stands a tick earlier than E of document 01 let it
 pub earlier_backup :
     (planner slow_links ≡ placed (slow_plan 10))
-    × (judge_by waits_for_both slow_links (slow_plan 10) ≡ Refused (BackupUnfed 1 2))
-    × (judge_by waits_for_both slow_links (slow_plan 11) ≡ Done)
+    × (judge_by waits_for_both slow_links (slow_plan 10) ≡ Err (BackupUnfed 1 2))
+    × (judge_by waits_for_both slow_links (slow_plan 11) ≡ Ok tt)
 unfolding computed waits_for_both judge_by
 earlier_backup = (refl, refl, refl)
 
 -- where it stands in the way of a later backup: the planner never goes back, so that a job may be refused of which a plan passed and passes
 pub earlier_in_the_way :
-    (planner crowded ≡ refused (NoBackup 3)) × (judge_by waits_for_both crowded crowded_plan ≡ Done) × (judge crowded crowded_plan ≡ Done)
+    (planner crowded ≡ refused (NoBackup 3)) × (judge_by waits_for_both crowded crowded_plan ≡ Ok tt) × (judge crowded crowded_plan ≡ Ok tt)
 unfolding computed waits_for_both judge_by
 earlier_in_the_way = (refl, refl, refl)
 
 -- where two links break E the first is named, the second once the first keeps it
 pub first_unfed :
-    (judge slow_links (one_plan 10) ≡ Refused (BackupUnfed 0 2))
-    × (judge slow_links (one_plan 11) ≡ Refused (BackupUnfed 1 2))
-    × (judge slow_links (one_plan 13) ≡ Done)
+    (judge slow_links (one_plan 10) ≡ Err (BackupUnfed 0 2))
+    × (judge slow_links (one_plan 11) ≡ Err (BackupUnfed 1 2))
+    × (judge slow_links (one_plan 13) ≡ Ok tt)
 unfolding computed
 first_unfed = (refl, refl, refl)
 
 -- and 12 goes before 13, though both ask for fault sets
-pub unfed_before_lost : (judge J (lost_plan 10) ≡ Refused (BackupUnfed 0 1)) × (judge J (lost_plan 11) ≡ Refused (CommonLoss 1))
+pub unfed_before_lost : (judge J (lost_plan 10) ≡ Err (BackupUnfed 0 1)) × (judge J (lost_plan 11) ≡ Err (CommonLoss 1))
 unfolding computed
 unfed_before_lost = (refl, refl)

@@ -6,7 +6,7 @@ use mathlib.Core.Option.{none}
 use lib.Dec.{lit<, lit≤}
 use native.Mathlib.Omega.{arith}
 use Rattle.reader.specs.declared.refusal.Refusal.TheVariants.{CommonLoss, Overlap}
-use Rattle.reader.specs.declared.refusal.Answer.TheVariants.{Refused}
+use Rattle.std.specs.Prelude.{Err}
 use Rattle.reader.specs.First.{first}
 use Rattle.reader.specs.Samples.{at, ◌beside◌, J, JWithoutLink}
 use Rattle.rules.specs.declared.Loss.TheVariants.{Lost}
@@ -26,7 +26,7 @@ use Rattle.rules.proofs.Samples.{computed}
 -- passed by direct predecessors, refused 13 by the rules; the loss leaves task 2 without a finished copy
 pub direct_predecessors :
     (breach chain (with_direct_faults chain (rows chain chain_plan)) ≡ none)
-    × (judge chain chain_plan ≡ Refused (CommonLoss 2))
+    × (judge chain chain_plan ≡ Err (CommonLoss 2))
     × (written chain chain_plan (Lost 0 3) 2 ≡ wrote 0 0 0)
     × (Survives chain (rows chain chain_plan) (Lost 0 3) (replay chain chain_plan (Lost 0 3)) → ⊥)
 unfolding computed direct_faults with_direct_faults
@@ -36,7 +36,7 @@ direct_predecessors = (refl, refl, refl, λ s. let b : 1 ≤ 0 = s.finish_least 
 pub free_sharing :
     (first 6 (λ n. found linked (check linked (rows linked linked_plan) n)) ≡ none)
     × (first_pair linked Overlap (λ i j. free_g (rows linked linked_plan i) (rows linked linked_plan j)) ≡ none)
-    × (judge linked linked_plan ≡ Refused (Overlap 1 2))
+    × (judge linked linked_plan ≡ Err (Overlap 1 2))
     × (written linked linked_plan (Lost 0 3) 1 ≡ wrote 0 2 15)
     × (written linked linked_plan (Lost 0 3) 2 ≡ wrote 0 2 15)
     × (overlap (rows linked linked_plan 1).backup (rows linked linked_plan 2).backup ≡ true)

@@ -3,7 +3,7 @@ use Rattle.std.specs.Prelude.{◌≡◌}
 use Rattle.reader.specs.declared.plan.Place.{Place}
 use Rattle.rules.specs.declared.Description.{Description}
 use Rattle.reader.specs.declared.refusal.Refusal.{Refusal}
-use Rattle.reader.specs.declared.refusal.Answer.TheVariants.{Done}
+use Rattle.std.specs.Prelude.{Ok}
 use Rattle.reader.specs.Sound.{Sound, PlanSound}
 use Rattle.rules.specs.Description.{NewSound, PlaceSound, Room}
 use Rattle.rules.specs.Judge.{judge}
@@ -15,7 +15,7 @@ use Rattle.rules.specs.Asking.{Booked, ask, commit}
 pub record Passed (b : Booked) : Type 0 where
   pub sound : Sound b.job
   pub planned : PlanSound b.job b.plan
-  pub passed : judge b.job b.plan ≡ Done
+  pub passed : judge b.job b.plan ≡ Ok tt
 
 -- the plan is the planner's own
 abbrev pub Own : Booked → Type 0

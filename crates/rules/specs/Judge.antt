@@ -6,7 +6,7 @@ use Rattle.reader.specs.declared.job.Link.{Link}
 use Rattle.reader.specs.declared.plan.Plan.{Plan}
 use Rattle.reader.specs.declared.refusal.Refusal.{Refusal}
 use Rattle.reader.specs.declared.refusal.Refusal.TheVariants.{SameNode, TooSoon, Early, Late, PrimaryUnfed, BackupUnfed, CommonLoss, Overlap}
-use Rattle.reader.specs.declared.refusal.Answer.{Answer}
+use Rattle.reader.specs.Refusals.{Answer}
 use Rattle.reader.specs.Tests.{◌implies◌}
 use Rattle.reader.specs.First.{◌or_else◌, first, unless}
 use Rattle.reader.specs.Refusals.{answered}

@@ -4,8 +4,8 @@ use Rattle.std.specs.Prelude.{ℕ, Bool, true, false, List, [], ◌∷◌}
 use Rattle.reader.specs.declared.job.Job.{Job}
 use Rattle.reader.specs.declared.job.Task.{Task}
 use Rattle.reader.specs.declared.plan.Plan.{Plan}
-use Rattle.reader.specs.declared.refusal.Answer.{Answer}
-use Rattle.reader.specs.declared.refusal.Answer.TheVariants.{Done, Refused}
+use Rattle.reader.specs.Refusals.{Answer}
+use Rattle.std.specs.Prelude.{Ok, Err}
 use Rattle.reader.specs.Limits.{max_nodes, max_tasks, max_links}
 use Rattle.reader.specs.Entries.{no_node, no_link, blank_task, link}
 use Rattle.reader.specs.declared.refusal.Told.{Told}
@@ -53,8 +53,8 @@ of_attempt (placed plan) = planned plan
 of_attempt (refused r) = declined (tell r)
 
 abbrev pub of_answer : Answer → Outcome
-of_answer Done = passed
-of_answer (Refused r) = declined (tell r)
+of_answer (Ok tt) = passed
+of_answer (Err r) = declined (tell r)
 
 abbrev pub written_of : Row → TaskRun → Written
 written_of r x = wrote (state_number x.primary) (state_number x.backup) (finish_of r x)

@@ -4,7 +4,7 @@ use Rattle.reader.specs.declared.job.Job.{Job}
 use Rattle.reader.specs.declared.job.Link.{Link}
 use Rattle.reader.specs.declared.plan.Plan.{Plan}
 use Rattle.reader.specs.declared.refusal.Refusal.TheVariants.{BackupUnfed}
-use Rattle.reader.specs.declared.refusal.Answer.{Answer}
+use Rattle.reader.specs.Refusals.{Answer}
 use Rattle.reader.specs.Tests.{◌and◌, ◌implies◌}
 use Rattle.reader.specs.First.{first, any}
 use Rattle.reader.specs.Refusals.{answered}
