@@ -8,8 +8,8 @@ use Rattle.reader.specs.declared.plan.Place.{Place}
 use Rattle.reader.specs.declared.plan.Plan.{Plan}
 use Rattle.reader.specs.declared.refusal.Refusal.{Refusal}
 use Rattle.reader.specs.declared.refusal.Refusal.TheVariants.{Stale}
-use Rattle.reader.specs.declared.refusal.Answer.{Answer}
-use Rattle.reader.specs.declared.refusal.Answer.TheVariants.{Done, Refused}
+use Rattle.reader.specs.Refusals.{Answer}
+use Rattle.std.specs.Prelude.{Ok, Err}
 use Rattle.reader.specs.Entries.{tasks}
 use Rattle.reader.specs.Sound.{Sound, PlanSound}
 use Rattle.reader.proofs.RefusalLaws.{answered_done, answered_refused}
@@ -43,7 +43,7 @@ module _ (job : Job) (plan : Plan) (d : Description) (ok : Asking job plan d) (x
       let same = rows_to_same job (longer_job job d) ext plan plan n (omega arith) (λ j p. refl) in
       sym (ap (λ a. a >>= λ r. placed (place_of r)) (told ∙ ap (λ t. place_task (longer_job job d) (anywhere n) n t n) same))
 
-  pub ask_nowhere : (r : Refusal) → x ≡ Err r → (a : Asked) → a ≡ placeless (Refused r) → a ≡ asked (ask job plan d)
+  pub ask_nowhere : (r : Refusal) → x ≡ Err r → (a : Asked) → a ≡ placeless (Err r) → a ≡ asked (ask job plan d)
   unfolding attempted ◌>>=◌ asked
   ask_nowhere r e a h = let nowhere : ask job plan d ≡ refused r = asks ∙ rw e in rw nowhere h
 
@@ -63,13 +63,13 @@ module _ (job : Job) (plan : Plan) (d : Description) (x : Place) (ok : Committin
     told : a ≡ judge (longer_job job d) (longer_plan job plan x)
     told = ea ∙ ap₂ (λ b l. judge b l) is il
 
-    pub commit_done : a ≡ Done → ◌≡◌ {A = Committed} (record { answer = Done; job = big; plan = long }) (committed (commit job plan d x))
+    pub commit_done : a ≡ Ok tt → ◌≡◌ {A = Committed} (record { answer = Ok tt; job = big; plan = long }) (committed (commit job plan d x))
     unfolding judge commit unless_stale longer committed
     commit_done q =
         let fine : breach (longer_job job d) (rows (longer_job job d) (longer_plan job plan x)) ≡ none = (answered_done _).0 (sym told ∙ q) in
         rw (fine, is, il)
 
-    pub commit_refused : {y : Refusal} → a ≡ Refused y → (c : Committed) → c ≡ bookless (Refused (Stale (tasks job)))
+    pub commit_refused : {y : Refusal} → a ≡ Err y → (c : Committed) → c ≡ bookless (Err (Stale (tasks job)))
         → c ≡ committed (commit job plan d x)
     unfolding judge commit unless_stale committed
     commit_refused {y} q c h =

@@ -7,8 +7,8 @@ use native.Mathlib.Numerals.{add-one}
 use Rattle.reader.specs.declared.job.Link.{Link}
 use Rattle.reader.specs.declared.refusal.Refusal.{Refusal}
 use Rattle.reader.specs.declared.refusal.Refusal.TheVariants.{LinkOrder}
-use Rattle.reader.specs.declared.refusal.Answer.{Answer}
-use Rattle.reader.specs.declared.refusal.Answer.TheVariants.{Done, Refused}
+use Rattle.reader.specs.Refusals.{Answer}
+use Rattle.std.specs.Prelude.{Ok, Err}
 use Rattle.reader.specs.declared.number.Number.{Number}
 use Rattle.reader.specs.declared.number.Number.TheVariants.{Is, Fault}
 use Rattle.reader.specs.First.{unless}
@@ -21,12 +21,12 @@ use Rattle.reader.proofs.NumberLaws.{is_none, is_value, is_fault}
 use Rattle.reader.proofs.Chain.{pass, stop, stopped, finished}
 
 module _ (s : List ℕ) (at n : ℕ) (before : Link) (f : Number) (ef : f ≡ numbered (value_fault s at 0 (n - 1)) (number_at s at)) where
-  pub new_from : {a : Answer} {r : Refusal} {A : Type 0} → f ≡ Fault r → a ≡ Refused r → Reads (new_link_fault s at n before) a A
+  pub new_from : {a : Answer} {r : Refusal} {A : Type 0} → f ≡ Fault r → a ≡ Err r → Reads (new_link_fault s at n before) a A
   unfolding new_link_fault
   new_from q told = stopped (stop _ (is_fault f _ _ ef q)) told
 
   module _ (x : ℕ) (qf : f ≡ Is x) (d : Number) (ed : d ≡ numbered (value_fault s (at + 4) 0 max_time) (number_at s (at + 4))) where
-    pub new_delay : {a : Answer} {r : Refusal} {A : Type 0} → d ≡ Fault r → a ≡ Refused r → Reads (new_link_fault s at n before) a A
+    pub new_delay : {a : Answer} {r : Refusal} {A : Type 0} → d ≡ Fault r → a ≡ Err r → Reads (new_link_fault s at n before) a A
     unfolding new_link_fault
     new_delay q told = stopped (pass _ (is_none f _ _ ef qf) ∙ stop _ (is_fault d _ _ ed q)) told
 
@@ -45,12 +45,12 @@ module _ (s : List ℕ) (at n : ℕ) (before : Link) (f : Number) (ef : f ≡ nu
           ∙ pass _ (is_none d _ _ ed qd)
           ∙ ap (λ v. unless v (LinkOrder at)) (sym (eb ∙ ap (below before) link_is))
 
-      pub new_order : {A : Type 0} {a : Answer} → b ≡ false → a ≡ Refused (LinkOrder at) → Reads (new_link_fault s at n before) a A
+      pub new_order : {A : Type 0} {a : Answer} → b ≡ false → a ≡ Err (LinkOrder at) → Reads (new_link_fault s at n before) a A
       unfolding unless
       new_order h told = stopped (order ∙ ap (λ v. unless v (LinkOrder at)) h) told
 
       pub new_done : b ≡ true
-          → Reads (new_link_fault s at n before) Done (◌≡◌ {A = Link} (record { from = x; to = n; delay = z }) (new_link_at s at n))
+          → Reads (new_link_fault s at n before) (Ok tt) (◌≡◌ {A = Link} (record { from = x; to = n; delay = z }) (new_link_at s at n))
       unfolding unless
       new_done h = finished (order ∙ ap (λ v. unless v (LinkOrder at)) h) refl link_is
 

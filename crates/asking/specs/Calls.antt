@@ -2,8 +2,8 @@
 use Rattle.reader.specs.declared.job.Job.{Job}
 use Rattle.reader.specs.declared.plan.Place.{Place}
 use Rattle.reader.specs.declared.plan.Plan.{Plan}
-use Rattle.reader.specs.declared.refusal.Answer.{Answer}
-use Rattle.reader.specs.declared.refusal.Answer.TheVariants.{Done, Refused}
+use Rattle.reader.specs.Refusals.{Answer}
+use Rattle.std.specs.Prelude.{Ok, Err}
 use Rattle.reader.specs.Entries.{no_place, empty_job, empty_plan}
 use Rattle.reader.specs.Sound.{Sound, PlanSound}
 use Rattle.rules.specs.declared.Description.{Description}
@@ -29,13 +29,13 @@ abbrev pub placeless : Answer → Asked
 placeless a = record { answer = a; place = no_place }
 
 unfoldable pub asked : Attempt Place → Asked
-asked (placed x) = record { answer = Done; place = x }
-asked (refused r) = placeless (Refused r)
+asked (placed x) = record { answer = Ok tt; place = x }
+asked (refused r) = placeless (Err r)
 
 -- and with the longer pair, which is empty on a refusal
 abbrev pub bookless : Answer → Committed
 bookless a = record { answer = a; job = empty_job; plan = empty_plan }
 
 unfoldable pub committed : Attempt Booked → Committed
-committed (placed b) = record { answer = Done; job = b.job; plan = b.plan }
-committed (refused r) = bookless (Refused r)
+committed (placed b) = record { answer = Ok tt; job = b.job; plan = b.plan }
+committed (refused r) = bookless (Err r)

@@ -8,8 +8,8 @@ use Rattle.reader.specs.declared.job.Job.{Job}
 use Rattle.reader.specs.declared.plan.Place.{Place}
 use Rattle.reader.specs.declared.plan.Plan.{Plan}
 use Rattle.reader.specs.declared.refusal.Refusal.{Refusal}
-use Rattle.reader.specs.declared.refusal.Answer.{Answer}
-use Rattle.reader.specs.declared.refusal.Answer.TheVariants.{Done, Refused}
+use Rattle.reader.specs.Refusals.{Answer}
+use Rattle.std.specs.Prelude.{Ok, Err}
 use Rattle.reader.specs.First.{fill}
 use Rattle.reader.specs.Entries.{nodes, tasks}
 use Rattle.reader.specs.Refusals.{answered, result_number}
@@ -39,7 +39,7 @@ use Rattle.seqopchi.proofs.ReadLaws.{FilesDone, judged}
 use Rattle.booking.proofs.AskedFiles.{go_on, files_passed}
 
 -- both files, read and judged
-pub passed_stops : (file plan : List ℕ) {r : Refusal} {a : Answer} {W : Type 0} → files_fault file plan ≡ some r → a ≡ Refused r
+pub passed_stops : (file plan : List ℕ) {r : Refusal} {a : Answer} {W : Type 0} → files_fault file plan ≡ some r → a ≡ Err r
     → Reads (judge_files file plan) a W
 unfolding judge_files
 passed_stops file plan bad q = stopped (stop _ bad) q
@@ -60,39 +60,39 @@ pub record Ready (bad : List ℕ → Job → Option Refusal) (file plan task : L
 -- both files were read and judged, then the third was read, and then there was room
 module _ (file plan : List ℕ) {a : Answer} {job : Job} {places : Plan}
     (passed : Reads (judge_files file plan) a ((job ≡ job_at file) × (places ≡ plan_in file plan))) where
-  held_sound : a ≡ Done → Sound job
+  held_sound : a ≡ Ok tt → Sound job
   held_sound done = subst Sound (sym (reads_value passed done).0) (files_passed file plan (reads_none passed done)).sound
 
-  pub held_sizes : a ≡ Done → Sizes (nodes job) (tasks job)
+  pub held_sizes : a ≡ Ok tt → Sizes (nodes job) (tasks job)
   held_sizes done =
       let sound = held_sound done in
       record { nodes_least = sound.nodes_least; nodes_most = sound.nodes_most; tasks_least = sound.tasks_least; tasks_most = sound.tasks_most }
 
   module _ (bad : List ℕ → Job → Option Refusal) (task : List ℕ) where
-    pub files_stop : {r : Refusal} → a ≡ Refused r → steps_fault bad file plan task ≡ some r
+    pub files_stop : {r : Refusal} → a ≡ Err r → steps_fault bad file plan task ≡ some r
     unfolding steps_fault
     files_stop q = stop _ (reads_some passed q)
 
-    module _ (done : a ≡ Done) {b : Answer} {d : Description} (read : Reads (bad task job) b (d ≡ description_at task job)) where
+    module _ (done : a ≡ Ok tt) {b : Answer} {d : Description} (read : Reads (bad task job) b (d ≡ description_at task job)) where
       is_job : job ≡ job_at file
       is_job = (reads_value passed done).0
 
       read_is : Reads (bad task (job_at file)) b (d ≡ new_in file task)
       read_is = subst (λ j. Reads (bad task j) b (d ≡ description_at task j)) is_job read
 
-      pub read_stops : {r : Refusal} → b ≡ Refused r → steps_fault bad file plan task ≡ some r
+      pub read_stops : {r : Refusal} → b ≡ Err r → steps_fault bad file plan task ≡ some r
       unfolding steps_fault
       read_stops q = pass _ (reads_none passed done) ∙ stop _ (reads_some read_is q)
 
-      module _ (fine : b ≡ Done) {n : Answer} (told : n ≡ answered (full_fault job d)) where
+      module _ (fine : b ≡ Ok tt) {n : Answer} (told : n ≡ answered (full_fault job d)) where
         full_is : n ≡ answered (full_fault (job_at file) (new_in file task))
         full_is = told ∙ ap₂ (λ j x. answered (full_fault j x)) is_job (reads_value read_is fine)
 
-        pub full_stops : {r : Refusal} → n ≡ Refused r → steps_fault bad file plan task ≡ some r
+        pub full_stops : {r : Refusal} → n ≡ Err r → steps_fault bad file plan task ≡ some r
         unfolding steps_fault
         full_stops {r} q = pass _ (reads_none passed done) ∙ pass _ (reads_none read_is fine) ∙ (answered_refused _ r).0 (sym full_is ∙ q)
 
-        pub ready : n ≡ Done → Ready bad file plan task job places d
+        pub ready : n ≡ Ok tt → Ready bad file plan task job places d
         ready q = record {
           files = reads_none passed done;
           reads = reads_none read_is fine;
@@ -128,7 +128,7 @@ module _ (file plan task : List ℕ) where
   unfolding ask_files
   ask_is = refl
 
-  pub ask_stops : {r : Refusal} {a : Answer} {x : Asked} → steps_fault question_fault file plan task ≡ some r → a ≡ Refused r → x ≡ placeless a
+  pub ask_stops : {r : Refusal} {a : Answer} {x : Asked} → steps_fault question_fault file plan task ≡ some r → a ≡ Err r → x ≡ placeless a
       → x ≡ asked (ask_files file plan task)
   unfolding asked
   ask_stops e q h = h ∙ ap placeless q ∙ sym (ap asked (ask_is ∙ stops _ e))
@@ -154,7 +154,7 @@ module _ (file plan booking : List ℕ) where
   unfolding commit_files
   commit_is = refl
 
-  pub commit_stops : {r : Refusal} {a : Answer} {b : Committed} → steps_fault booking_fault file plan booking ≡ some r → a ≡ Refused r
+  pub commit_stops : {r : Refusal} {a : Answer} {b : Committed} → steps_fault booking_fault file plan booking ≡ some r → a ≡ Err r
       → b ≡ bookless a → b ≡ committed (commit_files file plan booking)
   unfolding committed
   commit_stops e q h = h ∙ ap bookless q ∙ sym (ap committed (commit_is ∙ stops _ e))
@@ -177,25 +177,25 @@ module _ (file plan booking : List ℕ) where
         h ∙ ap committed (rw (there, done.job_is, done.plan_is, done.new_is) (sym (commit_is ∙ go_on _ _ (no_fault done))))
 
 -- what an answer says of the attempt behind it
-ask_refused : (t : Attempt Place) (x : Asked) {r : Refusal} → x ≡ asked t → x.answer ≡ Refused r → t ≡ refused r
+ask_refused : (t : Attempt Place) (x : Asked) {r : Refusal} → x ≡ asked t → x.answer ≡ Err r → t ≡ refused r
 unfolding asked
 ask_refused (refused s) x {r} e q = cc
 ask_refused (placed y) x {r} e q = never (cc)
 
-ask_placed : (t : Attempt Place) (x : Asked) → x ≡ asked t → x.answer ≡ Done → t ≡ placed x.place
+ask_placed : (t : Attempt Place) (x : Asked) → x ≡ asked t → x.answer ≡ Ok tt → t ≡ placed x.place
 unfolding asked
 ask_placed (refused s) x e q = never (cc)
 ask_placed (placed y) x e q = ap placed (sym (ap (λ z. z.place) e))
 
 -- C is given the answer's result, and the four numbers
 module _ (t : Attempt Place) (x : Asked) (is : x ≡ asked t) (out : List ℕ) where
-  pub no_places : {r : Refusal} {n : ℕ} → x.answer ≡ Refused r → n ≡ result_number x.answer
+  pub no_places : {r : Refusal} {n : ℕ} → x.answer ≡ Err r → n ≡ result_number x.answer
       → (n ≡ result_number (answered (refusal_of t))) × (out ≡ places_after t out)
   no_places q e = rw (ask_refused t x is q) (e ∙ ap result_number q, refl)
 
   abbrev put : List ℕ → Place → List ℕ
   put l y = set (set (set (set l 0 y.primary_node) 1 y.primary_start) 2 y.backup_node) 3 y.backup_start
 
-  pub places_are : x.answer ≡ Done → (0 ≡ result_number (answered (refusal_of t))) × (put out x.place ≡ places_after t out)
+  pub places_are : x.answer ≡ Ok tt → (0 ≡ result_number (answered (refusal_of t))) × (put out x.place ≡ places_after t out)
   unfolding fill place_numbers
   places_are q = rw (ask_placed t x is q) (refl, refl)

@@ -9,7 +9,7 @@ use Rattle.reader.specs.declared.job.Job.{Job}
 use Rattle.reader.specs.declared.plan.Plan.{Plan}
 use Rattle.reader.specs.declared.refusal.Refusal.{Refusal}
 use Rattle.reader.specs.declared.refusal.Refusal.TheVariants.{NoPrimary, NoBackup, Stale}
-use Rattle.reader.specs.declared.refusal.Answer.TheVariants.{Refused}
+use Rattle.std.specs.Prelude.{Err}
 use Rattle.reader.specs.Entries.{tasks}
 use Rattle.reader.specs.Sound.{Sound}
 use Rattle.reader.specs.Refusals.{tell, answered, result_number, Fits, FaultFits}
@@ -106,7 +106,7 @@ module _ (job plan : List ℕ) where
         room_fits out_plan _ (omega (arith, plan_most _ b.job p.sound (sound_plan_reads b.job b.plan p.sound p.planned))))
 
     answer_fits : (c : Attempt Booked) → FaultFits (refusal_of c) → ((b : Booked) → c ≡ placed b → Passed b)
-        → (out_job out_plan : List ℕ) (r : Refusal) → (books c out_job out_plan).answer ≡ Refused r
+        → (out_job out_plan : List ℕ) (r : Refusal) → (books c out_job out_plan).answer ≡ Err r
         → Unpacks (tell r) (result_number (books c out_job out_plan).answer)
     unfolding books
     answer_fits (refused s) f p out_job out_plan r e =
@@ -115,7 +115,7 @@ module _ (job plan : List ℕ) where
         unpacks (rooms_fault b out_job out_plan) (rooms_fit b (p b refl) out_job out_plan) r ((answered_refused _ r).0 e)
 
     -- `seqopchi_commit`
-    pub commit_unpacks : (out_job out_plan : List ℕ) (r : Refusal) → (commit_into job plan booking out_job out_plan).answer ≡ Refused r
+    pub commit_unpacks : (out_job out_plan : List ℕ) (r : Refusal) → (commit_into job plan booking out_job out_plan).answer ≡ Err r
         → Unpacks (tell r) (result_number (commit_into job plan booking out_job out_plan).answer)
     unfolding commit_into
     commit_unpacks = answer_fits _ committed_fits (booked_file_passes job plan booking)

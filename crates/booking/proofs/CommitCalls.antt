@@ -8,8 +8,8 @@ use lib.ListN.{length, take}
 use borrow.Author.Tests.{lt-leb, le-leb}
 use Rattle.reader.specs.declared.refusal.Refusal.{Refusal}
 use Rattle.reader.specs.declared.refusal.Refusal.TheVariants.{ShortBuffer}
-use Rattle.reader.specs.declared.refusal.Answer.{Answer}
-use Rattle.reader.specs.declared.refusal.Answer.TheVariants.{Done, Refused}
+use Rattle.reader.specs.Refusals.{Answer}
+use Rattle.std.specs.Prelude.{Ok, Err}
 use Rattle.reader.specs.Refusals.{result_number}
 use Rattle.reader.specs.PlanFile.{plan_length}
 use Rattle.reader.proofs.TestLaws.{never}
@@ -28,12 +28,12 @@ use Rattle.booking.specs.Asks.{commit_files, Booking, books_in, rooms_fault, boo
 use Rattle.seqopchi.proofs.PlanLaws.{put_front}
 use Rattle.booking.proofs.AskedFiles.{booked_file_passes}
 
-commit_refused : (t : Attempt Booked) (b : Committed) {r : Refusal} → b ≡ committed t → b.answer ≡ Refused r → t ≡ refused r
+commit_refused : (t : Attempt Booked) (b : Committed) {r : Refusal} → b ≡ committed t → b.answer ≡ Err r → t ≡ refused r
 unfolding committed
 commit_refused (refused s) b {r} e q = cc
 commit_refused (placed y) b {r} e q = never (cc)
 
-commit_placed : (t : Attempt Booked) (b : Committed) → b ≡ committed t → b.answer ≡ Done → t ≡ placed (record { job = b.job; plan = b.plan })
+commit_placed : (t : Attempt Booked) (b : Committed) → b ≡ committed t → b.answer ≡ Ok tt → t ≡ placed (record { job = b.job; plan = b.plan })
 unfolding committed
 commit_placed (refused s) b e q = never (cc)
 commit_placed (placed y) b e q = ap (λ z. placed (record { job = z.job; plan = z.plan })) (sym e)
@@ -49,12 +49,12 @@ module _ (out : List ℕ) {m n : ℕ} (is : m ≡ n) where
   has_room h = none_unless _ _ (le-leb n (length out) (omega arith))
 
 module _ (file plan booking out_job out_plan : List ℕ) (b : Committed) (is : b ≡ committed (commit_files file plan booking)) where
-  pub into_refused : {r : Refusal} → b.answer ≡ Refused r
+  pub into_refused : {r : Refusal} → b.answer ≡ Err r
       → commit_into file plan booking out_job out_plan ≡ record { answer = b.answer; job = out_job; plan = out_plan }
   unfolding commit_into books
   into_refused q = rw (commit_refused _ b is q, q)
 
-  module _ (done : b.answer ≡ Done) where
+  module _ (done : b.answer ≡ Ok tt) where
     abbrev pair : Booked
     pair = record { job = b.job; plan = b.plan }
 
@@ -78,28 +78,28 @@ module _ (file plan booking out_job out_plan : List ℕ) (b : Committed) (is : b
       job_size = omega (arith, put.behind, length_pack (job_numbers b.job))
 
       pub no_job_room : length out_job < n
-          → commit_into file plan booking out_job out_plan ≡ record { answer = Refused (ShortBuffer n); job = out_job; plan = out_plan }
+          → commit_into file plan booking out_job out_plan ≡ record { answer = Err (ShortBuffer n); job = out_job; plan = out_plan }
       unfolding rooms_fault
       no_job_room h = with_fault (stop _ (too_short out_job job_size h))
 
       module _ (room : n ≤ length out_job) where
         pub no_plan_room : length out_plan < plan_length b.plan.task_count
             → commit_into file plan booking out_job out_plan
-            ≡ record { answer = Refused (ShortBuffer (plan_length b.plan.task_count)); job = out_job; plan = out_plan }
+            ≡ record { answer = Err (ShortBuffer (plan_length b.plan.task_count)); job = out_job; plan = out_plan }
         unfolding rooms_fault
         no_plan_room h = with_fault (pass _ (has_room out_job job_size room) ∙ too_short out_plan plan_size h)
 
         pub both_written : plan_length b.plan.task_count ≤ length out_plan → {a : Answer} {x y : List ℕ} {m : ℕ}
             → writes (room_fault out_job (length (take n s))) (take n s) out_job ≡ record { answer = a; buffer = x }
             → Puts out_plan 0 (plan_numbers b.plan) y m
-            → commit_into file plan booking out_job out_plan ≡ record { answer = Done; job = x; plan = y }
+            → commit_into file plan booking out_job out_plan ≡ record { answer = Ok tt; job = x; plan = y }
         unfolding rooms_fault job_bytes plan_bytes
         both_written h {a} {x} {y} {m} sent puts =
             let has = has_room out_job job_size room in
             let whole : buffer_after (room_fault out_job (length (job_bytes b.job))) (job_bytes b.job) out_job ≡ x =
             ap (λ f. buffer_after (room_fault out_job (length f)) f out_job) (sym (front z (job_numbers b.job) s n put)) ∙ ap (λ w. w.buffer) sent in
             with_fault (or_else_i _ _ has (has_room out_plan plan_size h))
-            ∙ ap₂ (λ f g. record { answer = Done; job = f; plan = g })
+            ∙ ap₂ (λ f g. record { answer = Ok tt; job = f; plan = g })
             (ap (λ o. buffer_after o (job_bytes b.job) out_job) (sym has) ∙ whole)
             (put_front puts)
 

@@ -10,7 +10,7 @@ use Rattle.reader.specs.declared.plan.Place.{Place}
 use Rattle.reader.specs.declared.plan.Plan.{Plan}
 use Rattle.reader.specs.Limits.{max_plan_length}
 use Rattle.reader.specs.Entries.{tasks}
-use Rattle.reader.specs.declared.refusal.Answer.TheVariants.{Done}
+use Rattle.std.specs.Prelude.{Ok}
 use Rattle.reader.specs.Refusals.{answered, result_number}
 use Rattle.reader.specs.JobFile.{job_fault, job_at}
 use Rattle.reader.specs.PlanFile.{plan_length, plan_at}
@@ -79,7 +79,7 @@ module _ (file : List ℕ) (plan : Plan) (fine : job_fault file ≡ none) (own :
   value_own : FilesOwn (record { job = file; plan = plan_bytes plan })
   unfolding plan_file
   value_own out room =
-      let done : (plan_file file out).answer ≡ Done = ap answered (no_fault out room) in
+      let done : (plan_file file out).answer ≡ (Ok tt) = ap answered (no_fault out room) in
       (ap result_number done, planned file out done ∙ ap (λ a. plan_bytes (plan_or a)) own)
 
 -- a commit of what was asked

@@ -9,7 +9,7 @@ use lib.Seq.{take_at}
 use borrow.Author.Tests.{le-leb}
 use Rattle.reader.specs.declared.job.Job.{Job}
 use Rattle.reader.specs.declared.plan.Place.{Place}
-use Rattle.reader.specs.declared.refusal.Answer.TheVariants.{Done}
+use Rattle.std.specs.Prelude.{Ok}
 use Rattle.reader.specs.Entries.{nodes, tasks, links}
 use Rattle.reader.specs.Refusals.{answered, result_number}
 use Rattle.reader.specs.Sound.{Sound, PlanSound}
@@ -39,7 +39,7 @@ use Rattle.booking.proofs.LongerFiles.{longer_job_reread, longer_plan_reread, jo
 use Rattle.booking.proofs.AskedFiles.{commit_judged, booking_let, booked_file_passes, booked_file_is}
 
 -- a commit that answers 0 was not refused, and both buffers had room
-done_booked : (c : Attempt Booked) (out_job out_plan : List ℕ) → (books c out_job out_plan).answer ≡ Done
+done_booked : (c : Attempt Booked) (out_job out_plan : List ℕ) → (books c out_job out_plan).answer ≡ Ok tt
     → (b : Booked) × (c ≡ placed b) × (rooms_fault b out_job out_plan ≡ none)
 unfolding books
 done_booked (refused r) out_job out_plan h = never (cc)

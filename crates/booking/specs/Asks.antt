@@ -4,8 +4,8 @@ use Rattle.std.proofs.Math.Option.{Option, none, some}
 use Rattle.reader.specs.declared.job.Job.{Job}
 use Rattle.reader.specs.declared.plan.Place.{Place}
 use Rattle.reader.specs.declared.refusal.Refusal.{Refusal}
-use Rattle.reader.specs.declared.refusal.Answer.{Answer}
-use Rattle.reader.specs.declared.refusal.Answer.TheVariants.{Refused}
+use Rattle.reader.specs.Refusals.{Answer}
+use Rattle.std.specs.Prelude.{Err}
 use Rattle.reader.specs.First.{◌or_else◌, fill}
 use Rattle.reader.specs.Refusals.{answered}
 use Rattle.reader.specs.JobFile.{job_at}
@@ -65,7 +65,7 @@ unfoldable pub rooms_fault : Booked → List ℕ → List ℕ → Option Refusal
 rooms_fault b out_job out_plan = room_fault out_job (length (job_bytes b.job)) or_else room_fault out_plan (length (plan_bytes b.plan))
 
 unfoldable pub books : Attempt Booked → List ℕ → List ℕ → Booking
-books (refused r) out_job out_plan = record { answer = Refused r; job = out_job; plan = out_plan }
+books (refused r) out_job out_plan = record { answer = Err r; job = out_job; plan = out_plan }
 books (placed b) out_job out_plan = books_in (rooms_fault b out_job out_plan) b out_job out_plan
 
 unfoldable pub commit_into : List ℕ → List ℕ → List ℕ → List ℕ → List ℕ → Booking

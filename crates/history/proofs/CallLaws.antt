@@ -12,8 +12,8 @@ use Rattle.reader.specs.declared.job.Job.{Job}
 use Rattle.reader.specs.declared.job_file.JobRead.{JobRead}
 use Rattle.reader.specs.declared.refusal.Refusal.{Refusal}
 use Rattle.reader.specs.declared.refusal.Refusal.TheVariants.{ShortBuffer}
-use Rattle.reader.specs.declared.refusal.Answer.{Answer}
-use Rattle.reader.specs.declared.refusal.Answer.TheVariants.{Done, Refused}
+use Rattle.reader.specs.Refusals.{Answer}
+use Rattle.std.specs.Prelude.{Ok, Err}
 use Rattle.reader.specs.Limits.{max_nodes, max_tasks}
 use Rattle.reader.specs.Entries.{nodes, tasks, run}
 use Rattle.reader.specs.Reads.{Reads}
@@ -42,13 +42,13 @@ module _ (job log out : List ℕ) (need : ℕ) (s : List ℕ) where
   call = writes (call_fault job log out need) s out
 
   module _ (read : JobRead) (is : read ≡ read_job job) where
-    pub job_refused : {r : Refusal} → read.answer ≡ Refused r → call ≡ record { answer = read.answer; buffer = out }
+    pub job_refused : {r : Refusal} → read.answer ≡ Err r → call ≡ record { answer = read.answer; buffer = out }
     unfolding call_fault
     job_refused q = refuses s out (stop _ (bad_job job read is q)) q
 
     -- the room that the code asks for is that which the call needs
-    module _ (done : read.answer ≡ Done) (n : ℕ) (asks : n ≡ need) where
-      pub no_room : length out < n → call ≡ record { answer = Refused (ShortBuffer n); buffer = out }
+    module _ (done : read.answer ≡ Ok tt) (n : ℕ) (asks : n ≡ need) where
+      pub no_room : length out < n → call ≡ record { answer = Err (ShortBuffer n); buffer = out }
       unfolding call_fault room_fault
       no_room h =
           let short = some_unless _ _ (ShortBuffer n) (lt-leb need (length out) (omega arith)) (ap ShortBuffer (sym asks)) in
@@ -62,10 +62,10 @@ module _ (job log out : List ℕ) (need : ℕ) (s : List ℕ) where
             ∙ pass _ (none_unless _ _ (le-leb need (length out) (omega arith)))
             ∙ ap (log_fault log) (sym (job_is job read is done))
 
-        pub log_refused : {r : Refusal} → a ≡ Refused r → call ≡ record { answer = a; buffer = out }
+        pub log_refused : {r : Refusal} → a ≡ Err r → call ≡ record { answer = a; buffer = out }
         log_refused q = refuses s out (to_log ∙ reads_some reads q) q
 
-        pub no_fault : a ≡ Done → call_fault job log out need ≡ none
+        pub no_fault : a ≡ Ok tt → call_fault job log out need ≡ none
         no_fault q = to_log ∙ reads_none reads q
 
 -- both calls are such
@@ -118,20 +118,20 @@ module _ (job log out : List ℕ) (fine : job_fault job ≡ none) (read : log_fa
       rw (written, enough)
 
 -- both calls, where the log was read
-module _ (job log out : List ℕ) (read : JobRead) (is : read ≡ read_job job) (done : read.answer ≡ Done) (a : Answer) (new : Job)
-    (reads : Reads (log_fault log read.job) a (new ≡ renewed read.job (log_time read.job log))) (q : a ≡ Done) where
+module _ (job log out : List ℕ) (read : JobRead) (is : read ≡ read_job job) (done : read.answer ≡ Ok tt) (a : Answer) (new : Job)
+    (reads : Reads (log_fault log read.job) a (new ≡ renewed read.job (log_time read.job log))) (q : a ≡ Ok tt) where
   value : read.job ≡ job_at job
   value = job_is job read is done
 
   pub table_written : table_length read.job ≤ length out → {d : List ℕ} {end : ℕ} → Puts out 0 (table_numbers new (run new)) d end
-      → run_times job log out ≡ record { answer = Done; buffer = d }
+      → run_times job log out ≡ record { answer = Ok tt; buffer = d }
   unfolding table_bytes
   table_written room {d} puts =
       let bytes = table_bytes job log in
       let fine = no_fault job log out _ bytes read is done _ (ap table_length value) room a reads q in
       let put = table_put read.job new _ (job_sound job read is done) (reads_value reads q) puts in
       let same : bytes ≡ pack (table_numbers read.job (log_time read.job log)) = rw value in
-      table_is job log out ∙ rw (fine, same) (ap (λ b. record { answer = Done; buffer = b }) put)
+      table_is job log out ∙ rw (fine, same) (ap (λ b. record { answer = Ok tt; buffer = b }) put)
 
   pub renew_written : length job ≤ length out → {r : Answer} {d : List ℕ} → write_job new out ≡ record { answer = r; buffer = d }
       → renew_job job log out ≡ record { answer = r; buffer = d }

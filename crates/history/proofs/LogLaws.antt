@@ -7,8 +7,8 @@ use lib.ListN.{get_or, length}
 use native.Mathlib.Omega.{arith}
 use Rattle.reader.specs.declared.job.Job.{Job}
 use Rattle.reader.specs.declared.refusal.Refusal.{Refusal}
-use Rattle.reader.specs.declared.refusal.Answer.{Answer}
-use Rattle.reader.specs.declared.refusal.Answer.TheVariants.{Done, Refused}
+use Rattle.reader.specs.Refusals.{Answer}
+use Rattle.std.specs.Prelude.{Ok, Err}
 use Rattle.reader.specs.declared.number.Number.{Number}
 use Rattle.reader.specs.declared.number.Number.TheVariants.{Is, Fault}
 use Rattle.reader.specs.First.{first}
@@ -39,7 +39,7 @@ module _ (s : List ℕ) (at tasks_n nodes_n : ℕ) (job : Job) (is_tasks : tasks
   task_answer : t ≡ numbered (value_fault s at 0 (tasks job - 1)) (number_at s at)
   task_answer = subst (λ n. t ≡ numbered (value_fault s at 0 (n - 1)) (number_at s at)) (sym is_tasks) et
 
-  pub timing_task : {a : Answer} {r : Refusal} {A : Type 0} → t ≡ Fault r → a ≡ Refused r → Reads (timing_fault s job at) a A
+  pub timing_task : {a : Answer} {r : Refusal} {A : Type 0} → t ≡ Fault r → a ≡ Err r → Reads (timing_fault s job at) a A
   unfolding timing_fault
   timing_task q told = stopped (stop _ (is_fault t _ _ task_answer q)) told
 
@@ -49,18 +49,18 @@ module _ (s : List ℕ) (at tasks_n nodes_n : ℕ) (job : Job) (is_tasks : tasks
         subst (λ p. n ≡ numbered (node_fault s (at + 4) p (task job (number_at s at)).run) (number_at s (at + 4))) (sym is_nodes)
         (subst (λ y. n ≡ numbered (node_fault s (at + 4) nodes_n (task job y).run) (number_at s (at + 4))) (is_value t _ _ task_answer qt) en)
 
-    pub timing_node : {a : Answer} {r : Refusal} {A : Type 0} → n ≡ Fault r → a ≡ Refused r → Reads (timing_fault s job at) a A
+    pub timing_node : {a : Answer} {r : Refusal} {A : Type 0} → n ≡ Fault r → a ≡ Err r → Reads (timing_fault s job at) a A
     unfolding timing_fault
     timing_node q told = stopped (pass _ (is_none t _ _ task_answer qt) ∙ stop _ (is_fault n _ _ node_answer q)) told
 
     module _ (y : ℕ) (qn : n ≡ Is y) (d : Number) (ed : d ≡ numbered (value_fault s (at + 8) min_ticks max_time) (number_at s (at + 8))) where
-      pub timing_ticks : {a : Answer} {r : Refusal} {A : Type 0} → d ≡ Fault r → a ≡ Refused r → Reads (timing_fault s job at) a A
+      pub timing_ticks : {a : Answer} {r : Refusal} {A : Type 0} → d ≡ Fault r → a ≡ Err r → Reads (timing_fault s job at) a A
       unfolding timing_fault
       timing_ticks q told =
           stopped (pass _ (is_none t _ _ task_answer qt) ∙ pass _ (is_none n _ _ node_answer qn) ∙ is_fault d _ _ ed q) told
 
       pub timing_done : (z : ℕ) → d ≡ Is z
-          → Reads (timing_fault s job at) Done (◌≡◌ {A = Timing} (record { task = x; node = y; ticks = z }) (timing_at s at))
+          → Reads (timing_fault s job at) (Ok tt) (◌≡◌ {A = Timing} (record { task = x; node = y; ticks = z }) (timing_at s at))
       unfolding timing_fault timing_at
       timing_done z qd =
           let ex : x ≡ number_at s at = is_value t _ _ task_answer qt in
@@ -97,14 +97,14 @@ module _ (log : List ℕ) (tasks_n nodes_n : ℕ) (runs : List ℕ) (at : ℕ) (
   -- the next record
   module _ (a : Answer) (x : Timing) (one : OneRead log tasks_n nodes_n runs at a x) where
     stops : {r : Refusal} {A : Type 0} (job : Job) → at < length log → tasks job ≡ tasks_n → nodes job ≡ nodes_n → Runs job runs
-        → (b : Answer) → b ≡ a → a ≡ Refused r → Reads (log_fault log job) b A
+        → (b : Answer) → b ≡ a → a ≡ Err r → Reads (log_fault log job) b A
     unfolding log_fault records
     stops {r} job below p n h b same q =
         let inside : inv.k < records log = omega (arith, inv.at_is) in
         let bad : record_fault log job inv.k ≡ some r = ap (timing_fault log job) (sym inv.at_is) ∙ reads_some (one job p n h) q in
         stopped (first_found (record_fault log job) (records log) inv.k r inside (inv.read job p n h).clear bad) (same ∙ q)
 
-    pub log_stop : {r : Refusal} (v : Window) → at + 12 ≤ length log → a ≡ Refused r → (b : Answer) → b ≡ a
+    pub log_stop : {r : Refusal} (v : Window) → at + 12 ≤ length log → a ≡ Err r → (b : Answer) → b ≡ a
         → AllRead log tasks_n nodes_n runs b v
     log_stop v whole q b same = λ job p n h. stops job (omega arith) p n h b same q
 
@@ -115,12 +115,12 @@ module _ (log : List ℕ) (tasks_n nodes_n : ℕ) (runs : List ℕ) (at : ℕ) (
       where
         go : (job : Job) → tasks job ≡ tasks_n → nodes job ≡ nodes_n → Runs job runs → (c : Answer) → a ≡ c
             → Reads (log_fault log job) b (Formed v × Holding (record_at log) (records log) v)
-        go job p n h (Refused r) e = stops job below p n h b same e
-        go job p n h Done e =
+        go job p n h (Err r) e = stops job below p n h b same e
+        go job p n h (Ok tt) e =
             let room = (field_good log (at + 8) _ _ _ (or_else_r _ _ (or_else_r _ _ (reads_none (one job p n h) e)))).room in
             absurd (let z : ⊥ = omega (arith, room, cut) in z)
 
-    pub log_more : at + 12 ≤ length log → a ≡ Done → (v : Window) → Takes w x v → LogTo log tasks_n nodes_n runs (at + 12) v
+    pub log_more : at + 12 ≤ length log → a ≡ Ok tt → (v : Window) → Takes w x v → LogTo log tasks_n nodes_n runs (at + 12) v
     log_more whole q v push = record {
       k = inv.k + 1;
       at_is = omega (arith, inv.at_is);
@@ -136,7 +136,7 @@ module _ (log : List ℕ) (tasks_n nodes_n : ℕ) (runs : List ℕ) (at : ℕ) (
           };
     }
 
-  pub log_done : length log ≤ at → (b : Answer) → b ≡ Done → (v : Window) → v ≡ w → AllRead log tasks_n nodes_n runs b v
+  pub log_done : length log ≤ at → (b : Answer) → b ≡ Ok tt → (v : Window) → v ≡ w → AllRead log tasks_n nodes_n runs b v
   unfolding log_fault records
   log_done all b done v same = λ job p n h.
       let e : inv.k ≡ records log = omega (arith, inv.at_is, inv.within) in

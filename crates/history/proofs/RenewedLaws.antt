@@ -8,8 +8,8 @@ use lib.Dec.{eqb}
 use lib.ListN.{get_or, replicate}
 use native.Mathlib.Omega.{arith}
 use Rattle.reader.specs.declared.job.Job.{Job}
-use Rattle.reader.specs.declared.refusal.Answer.{Answer}
-use Rattle.reader.specs.declared.refusal.Answer.TheVariants.{Done, Refused}
+use Rattle.reader.specs.Refusals.{Answer}
+use Rattle.std.specs.Prelude.{Ok, Err}
 use Rattle.reader.specs.declared.refusal.Refusal.{Refusal}
 use Rattle.reader.specs.Tests.{◌and◌}
 use Rattle.reader.specs.Limits.{max_nodes, max_tasks, max_time}
@@ -130,13 +130,13 @@ module _ (log : List ℕ) (job : Job) (sound : Sound job) (fine : log_fault log 
 
 module _ (log : List ℕ) (job : Job) (a : Answer) (w : Window)
     (reads : Reads (log_fault log job) a (Formed w × Holding (record_at log) (records log) w)) where
-  pub renew_refused : {r : Refusal} {A : Type 0} → a ≡ Refused r → Reads (log_fault log job) a A
+  pub renew_refused : {r : Refusal} {A : Type 0} → a ≡ Err r → Reads (log_fault log job) a A
   renew_refused q = stopped (reads_some reads q) q
 
-  pub window_formed : a ≡ Done → Formed w
+  pub window_formed : a ≡ Ok tt → Formed w
   window_formed q = (reads_value reads q).0
 
-  pub renew_done : Sound job → a ≡ Done → (seen : List ℕ) → Seen w seen → (new : Job) → new ≡ renewed job (table_time seen job)
+  pub renew_done : Sound job → a ≡ Ok tt → (seen : List ℕ) → Seen w seen → (new : Job) → new ≡ renewed job (table_time seen job)
       → Reads (log_fault log job) a (new ≡ renewed job (log_time job log))
   renew_done sound q seen has new e =
       let fine = reads_none reads q in

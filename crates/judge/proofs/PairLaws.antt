@@ -10,7 +10,7 @@ use lib.ListN.{replicate}
 use borrow.Author.Tests.{eqb-true, eqb-false, eq-eqb, ne_eqb, ltb-true, lt-ltb, le-ltb, leb-true, leb-false, le-leb, lt-leb}
 use native.Mathlib.Omega.{arith}
 use Rattle.reader.specs.declared.refusal.Refusal.TheVariants.{Overlap}
-use Rattle.reader.specs.declared.refusal.Answer.TheVariants.{Done, Refused}
+use Rattle.std.specs.Prelude.{Ok, Err}
 use Rattle.reader.specs.Limits.{max_tasks, max_nodes}
 use Rattle.reader.specs.Tests.{◌and◌, ◌implies◌}
 use Rattle.reader.specs.First.{first, unless, every}
@@ -201,10 +201,10 @@ module _ (node start finish sets order count : List ℕ) (n : ℕ) (low : Low no
 
   -- as the answer tells it
   module _ (pair : ℕ) (is : pair ≡ least) where
-    pub tells_none : pair ≡ no_pair → Done ≡ answered (first n (pair_breach cs n))
+    pub tells_none : pair ≡ no_pair → (Ok tt) ≡ answered (first n (pair_breach cs n))
     unfolding pair_told
     tells_none h = sym (ap answered (first_told ∙ ap pair_told (sym is) ∙ none_unless _ _ (eq-eqb pair no_pair h)))
 
-    pub tells_first : (pair ≡ no_pair → ⊥) → Refused (Overlap (pair / max_tasks) (pair % max_tasks)) ≡ answered (first n (pair_breach cs n))
+    pub tells_first : (pair ≡ no_pair → ⊥) → Err (Overlap (pair / max_tasks) (pair % max_tasks)) ≡ answered (first n (pair_breach cs n))
     unfolding pair_told
     tells_first h = sym (ap answered (first_told ∙ ap pair_told (sym is) ∙ some_unless _ _ _ (ne_eqb pair no_pair h) refl))

@@ -12,8 +12,8 @@ use borrow.Author.Tests.{eq-eqb}
 use Rattle.reader.specs.declared.job.Job.{Job}
 use Rattle.reader.specs.declared.plan.Plan.{Plan}
 use Rattle.reader.specs.declared.refusal.Refusal.{Refusal}
-use Rattle.reader.specs.declared.refusal.Answer.{Answer}
-use Rattle.reader.specs.declared.refusal.Answer.TheVariants.{Done, Refused}
+use Rattle.reader.specs.Refusals.{Answer}
+use Rattle.std.specs.Prelude.{Ok, Err}
 use Rattle.reader.specs.First.{◌or_else◌}
 use Rattle.reader.specs.Limits.{max_start, max_time}
 use Rattle.reader.specs.Entries.{nodes, tasks, links, task, link, run}
@@ -191,7 +191,7 @@ module _ (job : Job) (plan : Plan) (sound : Sound job) (reads : PlanSound job pl
   unfolding judge
   parts u e = e ∙ ap answered (breach_parts job (rows job plan))
 
-  pub tasks_refused : (r : Refusal) → v ≡ Refused r → v ≡ judge job plan
+  pub tasks_refused : (r : Refusal) → v ≡ Err r → v ≡ judge job plan
   tasks_refused r e = parts _ (stop _ _ _ r placed.answer e)
 
   pub low : Low cs.node (tasks job)
@@ -226,7 +226,7 @@ module _ (job : Job) (plan : Plan) (sound : Sound job) (reads : PlanSound job pl
     links_answer : w.answer ≡ answered (by_links job (rows job plan))
     links_answer = walked.answer ∙ ap answered (links_are job plan sound reads bare placed.tabled.copied)
 
-    pub links_refused : v ≡ Done → (r : Refusal) → w.answer ≡ Refused r → w.answer ≡ judge job plan
+    pub links_refused : v ≡ Ok tt → (r : Refusal) → w.answer ≡ Err r → w.answer ≡ judge job plan
     links_refused done r e = parts _ (stop _ _ _ r links_answer e ∙ after _ _ (done_none _ _ placed.answer done))
 
     -- the sets once all tasks are gathered, and the table with them
@@ -257,7 +257,7 @@ module _ (job : Job) (plan : Plan) (sound : Sound job) (reads : PlanSound job pl
 
       -- every link is sure, or the pass found nothing
       abbrev Fed : Type 0
-      Fed = (w.unsure ≡ 0) ⊎ ((u : Answer) × Passed u × (u ≡ Done))
+      Fed = (w.unsure ≡ 0) ⊎ ((u : Answer) × Passed u × (u ≡ Ok tt))
 
       backups_kept : Fed → by_backups job (rows job plan) ≡ none
       backups_kept =
@@ -266,12 +266,12 @@ module _ (job : Job) (plan : Plan) (sound : Sound job) (reads : PlanSound job pl
           w.unsure walked.unsure)
           (λ x. done_none _ _ (backups_answer x.0 x.1) x.2)
 
-      module _ (done : v ≡ Done) (walk_done : w.answer ≡ Done) where
+      module _ (done : v ≡ Ok tt) (walk_done : w.answer ≡ Ok tt) where
         before : (o : Option Refusal) (u : Answer) → u ≡ answered o
             → u ≡ answered (by_tasks job (rows job plan) or_else by_links job (rows job plan) or_else o)
         before o u e = e ∙ after _ _ (done_none _ _ links_answer walk_done) ∙ after _ _ (done_none _ _ placed.answer done)
 
-        pub backups_refused : (u : Answer) → Passed u → (r : Refusal) → u ≡ Refused r → u ≡ judge job plan
+        pub backups_refused : (u : Answer) → Passed u → (r : Refusal) → u ≡ Err r → u ≡ judge job plan
         backups_refused u e r is = parts u (before _ u (stop _ _ _ r (backups_answer u e) is))
 
         pub faults_answered : Fed → (u : Answer) → u ≡ answered (fault_breach full job.nodes (tasks job)) → u ≡ judge job plan

@@ -5,8 +5,8 @@ use mathlib.Core.Option.{Option, none, some}
 use mathlib.Core.Path.{◌≡◌, refl, sym, ◌∙◌, ap, subst}
 use native.Mathlib.Omega.{arith}
 use Rattle.reader.specs.declared.refusal.Refusal.{Refusal}
-use Rattle.reader.specs.declared.refusal.Answer.{Answer}
-use Rattle.reader.specs.declared.refusal.Answer.TheVariants.{Done, Refused}
+use Rattle.reader.specs.Refusals.{Answer}
+use Rattle.std.specs.Prelude.{Ok, Err}
 use Rattle.reader.specs.First.{◌or_else◌, first, unless}
 use Rattle.reader.specs.Refusals.{answered}
 use Rattle.reader.proofs.TestLaws.{never}
@@ -27,37 +27,37 @@ module _ (n : ℕ) (f : ℕ → Option Refusal) where
     pub clear_more : j < n → f j ≡ none → Clear n f (j + 1)
     clear_more p e = record { within = omega arith; none_yet = first_more f j s.none_yet e }
 
-    pub clear_hit : (r : Refusal) → j < n → f j ≡ some r → Refused r ≡ answered (first n f)
+    pub clear_hit : (r : Refusal) → j < n → f j ≡ some r → Err r ≡ answered (first n f)
     clear_hit r p e = ap answered (sym (first_found f n j r p s.none_yet e))
 
     -- an answer at j that is a refusal
-    pub clear_stop : (v : Answer) (r : Refusal) → j < n → v ≡ answered (f j) → v ≡ Refused r → v ≡ answered (first n f)
+    pub clear_stop : (v : Answer) (r : Refusal) → j < n → v ≡ answered (f j) → v ≡ Err r → v ≡ answered (first n f)
     clear_stop v r p e refused = go (f j) refl
       where
         go : (o : Option Refusal) → f j ≡ o → v ≡ answered (first n f)
-        go none h = let done : v ≡ Done = e ∙ ap answered h in never (cc)
+        go none h = let done : v ≡ (Ok tt) = e ∙ ap answered h in never (cc)
         go (some x) h = e ∙ ap answered h ∙ clear_hit x p h
 
-    pub clear_done : n ≤ j → Done ≡ answered (first n f)
-    clear_done p = let d : j ≡ n = omega arith in subst (λ m. Done ≡ answered (first m f)) d (ap answered (sym s.none_yet))
+    pub clear_done : n ≤ j → (Ok tt) ≡ answered (first n f)
+    clear_done p = let d : j ≡ n = omega arith in subst (λ m. (Ok tt) ≡ answered (first m f)) d (ap answered (sym s.none_yet))
 
 -- a rule as a test
 module _ (n : ℕ) (rule : ℕ → Bool) (refusal : ℕ → Refusal) (j : ℕ) (s : Clear n (λ j. unless (rule j) (refusal j)) j) (p : j < n) where
   pub kept : rule j ≡ true → Clear n (λ j. unless (rule j) (refusal j)) (j + 1)
   kept e = clear_more n _ j s p (none_unless (rule j) (refusal j) e)
 
-  pub broken : rule j ≡ false → Refused (refusal j) ≡ answered (first n (λ j. unless (rule j) (refusal j)))
+  pub broken : rule j ≡ false → Err (refusal j) ≡ answered (first n (λ j. unless (rule j) (refusal j)))
   broken e = clear_hit n _ j s (refusal j) p (some_unless (rule j) (refusal j) (refusal j) e refl)
 
 -- one part after another
-pub done_none : (a : Option Refusal) (v : Answer) → v ≡ answered a → v ≡ Done → a ≡ none
+pub done_none : (a : Option Refusal) (v : Answer) → v ≡ answered a → v ≡ Ok tt → a ≡ none
 done_none a v e h = (answered_done a).0 (sym e ∙ h)
 
 pub after : (a b : Option Refusal) → a ≡ none → answered b ≡ answered (a or_else b)
 unfolding ◌or_else◌
 after a b e = rw e
 
-pub stop : (a b : Option Refusal) (v : Answer) (r : Refusal) → v ≡ answered a → v ≡ Refused r → v ≡ answered (a or_else b)
+pub stop : (a b : Option Refusal) (v : Answer) (r : Refusal) → v ≡ answered a → v ≡ Err r → v ≡ answered (a or_else b)
 unfolding ◌or_else◌
 stop none b v r e h = never (cc)
 stop (some x) b v r e h = e

@@ -10,7 +10,7 @@ use lib.ListN.{set, replicate}
 use Rattle.reader.specs.declared.job.Job.{Job}
 use Rattle.reader.specs.declared.plan.Plan.{Plan}
 use Rattle.reader.specs.declared.refusal.Refusal.TheVariants.{SameNode, TooSoon, Early, Late}
-use Rattle.reader.specs.declared.refusal.Answer.{Answer}
+use Rattle.reader.specs.Refusals.{Answer}
 use Rattle.reader.specs.First.{◌or_else◌}
 use Rattle.reader.specs.Limits.{max_send, max_group, max_tasks, max_time, max_start}
 use Rattle.reader.specs.Entries.{nodes, tasks, detect, group, ready, deadline, task, place}

@@ -4,7 +4,7 @@ use Rattle.reader.specs.declared.job.Job.{Job}
 use Rattle.reader.specs.declared.job.Node.{Node}
 use Rattle.reader.specs.declared.job.Task.{Task}
 use Rattle.reader.specs.declared.plan.Plan.{Plan}
-use Rattle.reader.specs.declared.refusal.Answer.{Answer}
+use Rattle.reader.specs.Refusals.{Answer}
 use Rattle.reader.specs.Limits.{max_nodes, max_detect, max_send, max_group, max_tasks, max_start, max_time}
 use Rattle.reader.specs.Entries.{nodes, tasks, links, no_node, no_task, place}
 use Rattle.reader.specs.Refusals.{answered}

@@ -7,8 +7,8 @@ use mathlib.Core.Option.{Option, none, some}
 use native.Mathlib.Omega.{arith}
 use Rattle.reader.specs.declared.job.Job.{Job}
 use Rattle.reader.specs.declared.plan.Plan.{Plan}
-use Rattle.reader.specs.declared.refusal.Answer.{Answer}
-use Rattle.reader.specs.declared.refusal.Answer.TheVariants.{Done}
+use Rattle.reader.specs.Refusals.{Answer}
+use Rattle.std.specs.Prelude.{Ok}
 use Rattle.reader.specs.First.{when}
 use Rattle.reader.specs.Entries.{tasks}
 use Rattle.reader.specs.Sound.{Sound, PlanSound}
@@ -40,7 +40,7 @@ module _ (s : List ℕ) (job : Job) (plan : Plan) (given : Bool) (a : Answer) (t
   unfolding when list_fault list_times chosen
   list_given e = rw e λ h. h
 
-  pub list_none : given ≡ false → a ≡ Done
+  pub list_none : given ≡ false → a ≡ Ok tt
       → Reads (list_fault (when given s) job plan) a (chosen given times job plan ≡ list_times (when given s) job plan)
   unfolding when list_fault list_times chosen
   list_none e done = rw e (finished refl done refl)
@@ -80,7 +80,7 @@ module _ (job : Job) (plan : Plan) (sound : Sound job) where
         subst (λ r. finish_of r x < 2 ^ 32) (list_rows_lem list j p) (omega (arith, most))
 
     -- demand 3, for every list without fault, and for none
-    pub list_survives : (list : Option (List ℕ)) → list_fault list job plan ≡ none → judge job plan ≡ Done → (loss : Loss) → LossOf job loss
+    pub list_survives : (list : Option (List ℕ)) → list_fault list job plan ≡ none → judge job plan ≡ Ok tt → (loss : Loss) → LossOf job loss
         → Survives job (list_rows list job plan) loss (list_run list job plan loss)
     unfolding list_fault list_rows list_run
     list_survives none fine passed = passed_survives job plan sound plan_sound passed
@@ -93,7 +93,7 @@ module _ (job : Job) (plan : Plan) (sound : Sound job) where
     list_tells list fine loss = bytes_tell job _ _ (λ j p. list_finish list fine j p (list_run list job plan loss j))
 
     -- demand 3, as replay's bytes show it
-    pub bytes_survive : (list : Option (List ℕ)) → list_fault list job plan ≡ none → judge job plan ≡ Done → (loss : Loss) → LossOf job loss
+    pub bytes_survive : (list : Option (List ℕ)) → list_fault list job plan ≡ none → judge job plan ≡ Ok tt → (loss : Loss) → LossOf job loss
         → BytesSurvive job (run_bytes job (list_rows list job plan) (list_run list job plan loss))
     bytes_survive list fine passed loss of_job =
         tells_survive job _ _ _ loss (list_tells list fine loss) (list_survives list fine passed loss of_job)

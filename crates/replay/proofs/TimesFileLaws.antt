@@ -10,8 +10,8 @@ use Rattle.reader.specs.declared.job.Job.{Job}
 use Rattle.reader.specs.declared.plan.Plan.{Plan}
 use Rattle.reader.specs.declared.refusal.Refusal.{Refusal}
 use Rattle.reader.specs.declared.refusal.Refusal.TheVariants.{Value, Tail}
-use Rattle.reader.specs.declared.refusal.Answer.{Answer}
-use Rattle.reader.specs.declared.refusal.Answer.TheVariants.{Done, Refused}
+use Rattle.reader.specs.Refusals.{Answer}
+use Rattle.std.specs.Prelude.{Ok, Err}
 use Rattle.reader.specs.First.{◌or_else◌}
 use Rattle.reader.specs.Limits.{max_tasks}
 use Rattle.reader.specs.Entries.{tasks}
@@ -47,22 +47,22 @@ module _ (s : List ℕ) (job : Job) (plan : Plan) where
   TimesTo = ReadTo none (tasks job) (λ j. took_fault s (8 * j) (listed_of job plan j)) (λ j. took_at s (8 * j)) (replicate max_tasks no_took) (tasks job)
 
   module _ (i : ℕ) (of : List Took) (inv : TimesTo i of) where
-    pub times_stop : {X : Type 0} {a : Answer} {r : Refusal} → i < tasks job → took_fault s (8 * i) (listed_of job plan i) ≡ some r → a ≡ Refused r
+    pub times_stop : {X : Type 0} {a : Answer} {r : Refusal} → i < tasks job → took_fault s (8 * i) (listed_of job plan i) ≡ some r → a ≡ Err r
         → Reads (times_fault s job plan) a X
     unfolding times_fault ◌or_else◌
     times_stop {X} {a} {r} below bad told =
-        stopped (stop _ (reads_some (read_stop _ _ _ _ _ _ i of inv {X = Unit {0}} {a = Refused r} below bad refl) refl)) told
+        stopped (stop _ (reads_some (read_stop _ _ _ _ _ _ i of inv {X = Unit {0}} {a = Err r} below bad refl) refl)) told
 
     to_tail : tasks job ≤ i → times_fault s job plan ≡ tail_fault s (8 * tasks job)
     unfolding times_fault ◌or_else◌
     to_tail all = pass _ (reads_none (read_done _ _ _ _ _ _ i of inv all) refl)
 
-    pub times_tail : {X : Type 0} {a : Answer} → tasks job ≤ i → 8 * tasks job < length s → a ≡ Refused (Tail (8 * tasks job))
+    pub times_tail : {X : Type 0} {a : Answer} → tasks job ≤ i → 8 * tasks job < length s → a ≡ Err (Tail (8 * tasks job))
         → Reads (times_fault s job plan) a X
     times_tail all h told = stopped (to_tail all ∙ tail_some s _ h) told
 
     pub times_whole : tasks job ≤ i → length s ≤ 8 * tasks job
-        → Reads (times_fault s job plan) Done (◌≡◌ {A = Times} (record { of = of }) (times_at s (tasks job)))
+        → Reads (times_fault s job plan) (Ok tt) (◌≡◌ {A = Times} (record { of = of }) (times_at s (tasks job)))
     unfolding times_at ◌or_else◌
     times_whole all h =
         finished (to_tail all ∙ good_tail s _ h) refl

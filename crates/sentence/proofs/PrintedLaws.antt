@@ -9,7 +9,7 @@ use lib.Seq.{length-take-le}
 use native.Mathlib.Omega.{arith}
 use borrow.Author.Tests.{le-leb, lt-leb}
 use Rattle.reader.specs.declared.refusal.Refusal.TheVariants.{NotASentence, ShortBuffer}
-use Rattle.reader.specs.declared.refusal.Answer.TheVariants.{Done, Refused}
+use Rattle.std.specs.Prelude.{Ok, Err}
 use Rattle.reader.specs.declared.refusal.Told.{Told}
 use Rattle.reader.specs.First.{◌or_else◌, unless}
 use Rattle.reader.proofs.TestLaws.{split}
@@ -98,12 +98,12 @@ module _ {d b s : List ℕ} {r : ℕ} (p : Prints d 0 s b r) where
 
 -- the answer, test by test
 module _ (t : Told) (out : List ℕ) where
-  pub print_untabled : tabled t.number ≡ false → print_sentence t out ≡ record { answer = Refused (NotASentence t.number); buffer = out }
+  pub print_untabled : tabled t.number ≡ false → print_sentence t out ≡ record { answer = Err (NotASentence t.number); buffer = out }
   unfolding print_sentence print_fault unless ◌or_else◌
   print_untabled h = rw h
 
   module _ (h : tabled t.number ≡ true) {z line : List ℕ} {need : ℕ} (p : Prints z 0 (sentence t) line need) where
-    pub print_short : length out < need → print_sentence t out ≡ record { answer = Refused (ShortBuffer need); buffer = out }
+    pub print_short : length out < need → print_sentence t out ≡ record { answer = Err (ShortBuffer need); buffer = out }
     unfolding print_sentence print_fault unless ◌or_else◌ room_fault
     print_short l = rw (h, printed_size p, lt-leb (length (sentence t)) (length out) (omega (arith, printed_size p)))
 
@@ -112,7 +112,7 @@ module _ (t : Told) (out : List ℕ) where
     print_room l = rw (h, le-leb (length (sentence t)) (length out) l)
 
     pub print_done : {b : List ℕ} {r : ℕ} → need ≤ length out → Prints out 0 (take need line) b r
-        → print_sentence t out ≡ record { answer = Done; buffer = b }
+        → print_sentence t out ≡ record { answer = Ok tt; buffer = b }
     unfolding print_sentence
     print_done {b} {r} l q =
         let whole = printed_whole (prints_same (printed_front p) q) in

@@ -6,7 +6,7 @@ use mathlib.Core.List.{List}
 use mathlib.Core.Option.{Option, none, some}
 use lib.ListN.{length, set, drop}
 use Rattle.reader.specs.declared.refusal.Refusal.{Refusal}
-use Rattle.reader.specs.declared.refusal.Answer.TheVariants.{Done, Refused}
+use Rattle.std.specs.Prelude.{Ok, Err}
 use Rattle.reader.specs.declared.refusal.Told.{Told}
 use Rattle.reader.specs.Tests.{◌and◌}
 use Rattle.reader.specs.First.{◌or_else◌, when}
@@ -60,12 +60,12 @@ module _ {s : List ℕ} {n a b : ℕ} (w : Shown s n a b) where
     pub two_tabled : Tabled two
     two_tabled = record { number = e; first = w.first; second = w.first }
 
-    pub read_one : same s (sentence one) ≡ true → record { answer = Done; told = one } ≡ reading_of s (read_sentence s)
+    pub read_one : same s (sentence one) ≡ true → record { answer = Ok tt; told = one } ≡ reading_of s (read_sentence s)
     unfolding if_said when ◌or_else◌ ◌and◌
     read_one x = rw (read_is, e, x)
 
     module _ (x : same s (sentence one) ≡ false) where
-      pub read_two : same s (sentence two) ≡ true → record { answer = Done; told = two } ≡ reading_of s (read_sentence s)
+      pub read_two : same s (sentence two) ≡ true → record { answer = Ok tt; told = two } ≡ reading_of s (read_sentence s)
       unfolding if_said when ◌or_else◌ ◌and◌
       read_two y = rw (read_is, e, x, y)
 
@@ -75,23 +75,23 @@ module _ {s : List ℕ} {n a b : ℕ} (w : Shown s n a b) where
 
 -- what the console is handed: the answer, and the three numbers or what it had
 module _ (s parts : List ℕ) where
-  handed_refused : (o : Option Told) (q : Refusal) → (reading_of s o).answer ≡ Refused q → parts ≡ handed o parts
+  handed_refused : (o : Option Told) (q : Refusal) → (reading_of s o).answer ≡ Err q → parts ≡ handed o parts
   handed_refused none q e = refl
   handed_refused (some t) q e = never (cc)
 
-  handed_done : (o : Option Told) → (reading_of s o).answer ≡ Done
+  handed_done : (o : Option Told) → (reading_of s o).answer ≡ Ok tt
       → (0 ≡ result_number (reading_of s o).answer)
       × (set (set (set parts 0 (reading_of s o).told.number) 1 (reading_of s o).told.first) 2 (reading_of s o).told.second ≡ handed o parts)
   handed_done none e = never (cc)
   handed_done (some t) e = (refl, refl)
 
-  pub refused_handed : (r : Reading) {q : Refusal} (n : ℕ) → r ≡ reading_of s (read_sentence s) → r.answer ≡ Refused q
+  pub refused_handed : (r : Reading) {q : Refusal} (n : ℕ) → r ≡ reading_of s (read_sentence s) → r.answer ≡ Err q
       → n ≡ result_number r.answer
       → (n ≡ result_number (reading_of s (read_sentence s)).answer) × (parts ≡ handed (read_sentence s) parts)
   refused_handed r {q} n e a f =
       (f ∙ ap (λ x. result_number x.answer) e, handed_refused (read_sentence s) q (sym (ap (λ x. x.answer) e) ∙ a))
 
-  pub done_handed : (r : Reading) → r ≡ reading_of s (read_sentence s) → r.answer ≡ Done
+  pub done_handed : (r : Reading) → r ≡ reading_of s (read_sentence s) → r.answer ≡ Ok tt
       → (0 ≡ result_number (reading_of s (read_sentence s)).answer)
       × (set (set (set parts 0 r.told.number) 1 r.told.first) 2 r.told.second ≡ handed (read_sentence s) parts)
   done_handed r e a =

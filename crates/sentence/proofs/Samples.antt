@@ -4,7 +4,7 @@ use mathlib.Core.Path.{◌≡◌, refl}
 use mathlib.Core.List.{[], ◌∷◌}
 use mathlib.Core.Option.{some}
 use Rattle.reader.specs.declared.refusal.Refusal.TheVariants.{NotASentence}
-use Rattle.reader.specs.declared.refusal.Answer.TheVariants.{Refused}
+use Rattle.std.specs.Prelude.{Err}
 use Rattle.reader.specs.Tests.{◌and◌}
 use Rattle.reader.specs.First.{◌or_else◌, unless, when}
 use Rattle.reader.specs.Refusals.{told}
@@ -38,20 +38,20 @@ unfolding printing reading others all_refused
 refused = refl
 
 -- 'The sentence of refusal (22, 5, 0) reads back as that refusal'
-pub of_22 : read_sentence (spelled "Refused 22, not a sentence: no refusal has it; its length or number: 5.") ≡ some (told 22 5 0)
+pub of_22 : read_sentence (spelled "Err 22, not a sentence: no refusal has it; its length or number: 5.") ≡ some (told 22 5 0)
 unfolding printing reading
 of_22 = refl
 
 -- a number outside the tables is refused 22 before 17
-pub number_before_room : (print_sentence (told 23 0 0) []).answer ≡ Refused (NotASentence 23)
+pub number_before_room : (print_sentence (told 23 0 0) []).answer ≡ Err (NotASentence 23)
 unfolding printing print_fault print_sentence unless ◌or_else◌
 number_before_room = refl
 
 -- the wrong reader: a zero in front, a space behind and 2 ^ 64, read as 0
-pub trusting_zero : trusting (spelled "Refused 4, value: the number at byte 056 is outside its limits. ") ≡ some (told 4 56 0)
+pub trusting_zero : trusting (spelled "Err 4, value: the number at byte 056 is outside its limits. ") ≡ some (told 4 56 0)
 unfolding printing reading trusting
 trusting_zero = refl
 
-pub trusting_large : trusting (spelled "Refused 4, value: the number at byte 18446744073709551616 is outside its limits.") ≡ some (told 4 0 0)
+pub trusting_large : trusting (spelled "Err 4, value: the number at byte 18446744073709551616 is outside its limits.") ≡ some (told 4 0 0)
 unfolding printing reading trusting
 trusting_large = refl

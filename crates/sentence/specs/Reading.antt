@@ -2,7 +2,7 @@
 use Rattle.std.specs.Prelude.{ℕ, Bool, true, false, List, [], ◌∷◌, eqb, length, set}
 use Rattle.std.proofs.Math.Option.{Option, none, some}
 use Rattle.reader.specs.declared.refusal.Refusal.TheVariants.{NotASentence}
-use Rattle.reader.specs.declared.refusal.Answer.TheVariants.{Done, Refused}
+use Rattle.std.specs.Prelude.{Ok, Err}
 use Rattle.reader.specs.declared.refusal.Told.{Told}
 use Rattle.reader.specs.Tests.{◌and◌}
 use Rattle.reader.specs.First.{◌or_else◌, when}
@@ -36,10 +36,10 @@ read_sentence s = if_said s (shown s) or_else if_said s (repeated (shown s))
 
 -- 22 'for every text that is no refusal's sentence, length of the text / 0, the reader's only refusal'; nothing was read then
 abbrev pub no_reading : ℕ → Reading
-no_reading n = record { answer = Refused (NotASentence n); told = told 0 0 0 }
+no_reading n = record { answer = Err (NotASentence n); told = told 0 0 0 }
 
 abbrev pub reading_of : List ℕ → Option Told → Reading
-reading_of s (some t) = record { answer = Done; told = t }
+reading_of s (some t) = record { answer = Ok tt; told = t }
 reading_of s none = no_reading (length s)
 
 -- what the console is handed: three numbers, or on a refusal what it had

@@ -11,7 +11,7 @@ use Rattle.reader.specs.declared.job_file.JobRead.{JobRead}
 use Rattle.reader.specs.declared.plan.Plan.{Plan}
 use Rattle.reader.specs.declared.refusal.Refusal.{Refusal}
 use Rattle.reader.specs.declared.refusal.Refusal.TheVariants.{ShortBuffer}
-use Rattle.reader.specs.declared.refusal.Answer.TheVariants.{Done, Refused}
+use Rattle.std.specs.Prelude.{Ok, Err}
 use Rattle.reader.specs.First.{◌or_else◌, unless}
 use Rattle.reader.specs.Limits.{max_tasks}
 use Rattle.reader.specs.Entries.{tasks}
@@ -34,16 +34,16 @@ pub put_front : {out vs b : List ℕ} {n : ℕ} → Puts out 0 vs b n → pack v
 put_front {out} {vs} {b} {n} puts = sym (puts.buffer ∙ splice_front out (pack vs) (length (pack vs)) refl)
 
 module _ (file out : List ℕ) (read : JobRead) (is : read ≡ read_job file) where
-  pub job_refused : {r : Refusal} → read.answer ≡ Refused r → plan_file file out ≡ record { answer = read.answer; buffer = out }
+  pub job_refused : {r : Refusal} → read.answer ≡ Err r → plan_file file out ≡ record { answer = read.answer; buffer = out }
   unfolding plan_file_fault plan_file
   job_refused q = refuses _ out (stop _ (bad_job file read is q)) q
 
-  module _ (done : read.answer ≡ Done) where
+  module _ (done : read.answer ≡ Ok tt) where
     same : read.job ≡ job_at file
     same = job_is file read is done
 
     pub no_room : length out < plan_length (tasks read.job)
-        → plan_file file out ≡ record { answer = Refused (ShortBuffer (plan_length (tasks read.job))); buffer = out }
+        → plan_file file out ≡ record { answer = Err (ShortBuffer (plan_length (tasks read.job))); buffer = out }
     unfolding plan_file_fault plan_file room_fault unless ◌or_else◌
     no_room h = rw ((good file read is done).fault, ← same, lt-leb (plan_length (tasks read.job)) (length out) h)
 
@@ -52,7 +52,7 @@ module _ (file out : List ℕ) (read : JobRead) (is : read ≡ read_job file) wh
       unfolding plan_file_fault room_fault unless ◌or_else◌
       to_planner = rw ((good file read is done).fault, ← same, le-leb (plan_length (tasks read.job)) (length out) room)
 
-      pub no_place_lem : {r : Refusal} → p ≡ Err r → plan_file file out ≡ record { answer = Refused r; buffer = out }
+      pub no_place_lem : {r : Refusal} → p ≡ Err r → plan_file file out ≡ record { answer = Err r; buffer = out }
       unfolding plan_file
       no_place_lem q = refuses _ out (to_planner ∙ ap refusal_of (attempt_refused (planner read.job) p ep q)) refl
 
@@ -66,9 +66,9 @@ module _ (file out : List ℕ) (read : JobRead) (is : read ≡ read_job file) wh
             let sound = job_sound file read is done in
             omega (arith, (planned_sound read.job sound plan found).count, sound.tasks_most)
 
-        pub plan_written : (b : List ℕ) (n : ℕ) → Puts out 0 (plan_numbers plan) b n → plan_file file out ≡ record { answer = Done; buffer = b }
+        pub plan_written : (b : List ℕ) (n : ℕ) → Puts out 0 (plan_numbers plan) b n → plan_file file out ≡ record { answer = Ok tt; buffer = b }
         unfolding plan_file plan_bytes
         plan_written b n puts =
             let none_found : plan_file_fault file out ≡ none = to_planner ∙ ap refusal_of found in
             let plan_is : plan_or (planner (job_at file)) ≡ plan = ap (λ j. plan_or (planner j)) (sym same) ∙ ap plan_or found in
-            rw (none_found, plan_is) (ap (λ x. record { answer = Done; buffer = x }) (put_front puts))
+            rw (none_found, plan_is) (ap (λ x. record { answer = Ok tt; buffer = x }) (put_front puts))

@@ -7,7 +7,7 @@ use lib.ListN.{length, take, drop}
 use lib.Seq.{take_at}
 use Rattle.reader.specs.declared.job.Job.{Job}
 use Rattle.reader.specs.declared.plan.Plan.{Plan}
-use Rattle.reader.specs.declared.refusal.Answer.TheVariants.{Done}
+use Rattle.std.specs.Prelude.{Ok}
 use Rattle.reader.specs.Entries.{tasks}
 use Rattle.reader.specs.Sound.{Sound, PlanSound}
 use Rattle.reader.specs.Refusals.{answered, result_number}
@@ -49,7 +49,7 @@ module _ (job : Job) (sound : Sound job) (plan : Plan) (h : planner job ≡ plac
   unfolding judge
   no_breach = rw read_back ((answered_done _).0 (planned_passes job sound plan h))
 
-module _ (file out : List ℕ) (done : (plan_file file out).answer ≡ Done) where
+module _ (file out : List ℕ) (done : (plan_file file out).answer ≡ Ok tt) where
   abbrev job : Job
   job = job_at file
 

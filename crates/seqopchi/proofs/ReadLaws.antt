@@ -14,8 +14,8 @@ use Rattle.reader.specs.declared.plan.Plan.{Plan}
 use Rattle.reader.specs.declared.plan_file.PlanRead.{PlanRead}
 use Rattle.reader.specs.declared.refusal.Refusal.{Refusal}
 use Rattle.reader.specs.declared.refusal.Refusal.TheVariants.{ShortBuffer, NoSuchNode}
-use Rattle.reader.specs.declared.refusal.Answer.{Answer}
-use Rattle.reader.specs.declared.refusal.Answer.TheVariants.{Done, Refused}
+use Rattle.reader.specs.Refusals.{Answer}
+use Rattle.std.specs.Prelude.{Ok, Err}
 use Rattle.reader.specs.First.{◌or_else◌, unless, any}
 use Rattle.reader.specs.Entries.{nodes, tasks, no_node}
 use Rattle.reader.specs.Sound.{Sound, PlanSound}
@@ -42,7 +42,7 @@ use Rattle.replay.proofs.ListLaws.{list_bytes, list_sound}
 use Rattle.seqopchi.specs.Files.{plan_in, files_fault, judge_files, loss_fault, replay_fault, rows_in, run_in, replay_files}
 
 -- a refusal that is handed on leaves the buffer
-pub refuses : {fault : Option Refusal} {r : Refusal} (s out : List ℕ) {a : Answer} → fault ≡ some r → a ≡ Refused r
+pub refuses : {fault : Option Refusal} {r : Refusal} (s out : List ℕ) {a : Answer} → fault ≡ some r → a ≡ Err r
     → writes fault s out ≡ record { answer = a; buffer = out }
 refuses s out e q = rw (e, q)
 
@@ -59,15 +59,15 @@ module _ (job : Job) (loss : Loss) (q f : ℕ) (told : loss ≡ Lost q f)
   unfolding has_node domain
   there = e ∙ ap₂ (λ l m. any m (λ i. eqb (get_or l i no_node).group q)) (sym are) (sym is)
 
-  pub group_there : b ≡ true → Done ≡ answered (loss_fault job loss)
+  pub group_there : b ≡ true → (Ok tt) ≡ answered (loss_fault job loss)
   unfolding loss_fault unless
   group_there h = rw (told, sym there ∙ h)
 
-  pub group_missing : b ≡ false → Refused (NoSuchNode q) ≡ answered (loss_fault job loss)
+  pub group_missing : b ≡ false → Err (NoSuchNode q) ≡ answered (loss_fault job loss)
   unfolding loss_fault unless
   group_missing h = rw (told, sym there ∙ h)
 
-pub nothing_lost : (job : Job) (loss : Loss) → loss ≡ NoLoss → Done ≡ answered (loss_fault job loss)
+pub nothing_lost : (job : Job) (loss : Loss) → loss ≡ NoLoss → (Ok tt) ≡ answered (loss_fault job loss)
 unfolding loss_fault
 nothing_lost job loss told = rw told
 
@@ -86,15 +86,15 @@ pub record FilesDone (file plan : List ℕ) (job : Job) (places : Plan) : Type 0
 
 -- a job file that was read, and then a plan file
 module _ (file : List ℕ) (read : JobRead) (is : read ≡ read_job file) where
-  pub bad_job : {r : Refusal} → read.answer ≡ Refused r → job_fault file ≡ some r
+  pub bad_job : {r : Refusal} → read.answer ≡ Err r → job_fault file ≡ some r
   unfolding read_job
   bad_job {r} q = (answered_refused _ r).0 (sym (ap (λ x. x.answer) is) ∙ q)
 
-  pub job_stops : (plan : List ℕ) {r : Refusal} → read.answer ≡ Refused r → files_fault file plan ≡ some r
+  pub job_stops : (plan : List ℕ) {r : Refusal} → read.answer ≡ Err r → files_fault file plan ≡ some r
   unfolding files_fault
   job_stops plan q = stop _ (bad_job q)
 
-  module _ (done : read.answer ≡ Done) where
+  module _ (done : read.answer ≡ Ok tt) where
     pub good : JobDone file
     good = job_done file (sym (ap (λ x. x.answer) is) ∙ done)
 
@@ -112,16 +112,16 @@ module _ (file : List ℕ) (read : JobRead) (is : read ≡ read_job file) where
       unfolding files_fault read_plan
       to_plan = ap (λ x. x.answer) plan_read ∙ sym (ap answered (pass _ good.fault))
 
-      pub plan_stops : {r : Refusal} → p.answer ≡ Refused r → files_fault file plan ≡ some r
+      pub plan_stops : {r : Refusal} → p.answer ≡ Err r → files_fault file plan ≡ some r
       plan_stops {r} q = (answered_refused _ r).0 (sym to_plan ∙ q)
 
-      pub files_done : p.answer ≡ Done → FilesDone file plan read.job p.plan
+      pub files_done : p.answer ≡ Ok tt → FilesDone file plan read.job p.plan
       unfolding files_fault read_plan
       files_done planned =
           let fine = (answered_done (files_fault file plan)).0 (sym to_plan ∙ planned) in
           record { fault = fine; job_is = job_is; plan_is = ap (λ x. x.plan) plan_read ∙ none_value _ _ _ (or_else_r _ _ fine) }
 
-module _ (file plan : List ℕ) {r : Refusal} (a : Answer) (bad : files_fault file plan ≡ some r) (q : a ≡ Refused r) where
+module _ (file plan : List ℕ) {r : Refusal} (a : Answer) (bad : files_fault file plan ≡ some r) (q : a ≡ Err r) where
   pub judge_stops : a ≡ answered (judge_files file plan)
   unfolding judge_files
   judge_stops = q ∙ sym (ap answered (stop _ bad))
@@ -140,7 +140,7 @@ module _ (file plan : List ℕ) (job : Job) (places : Plan) (d : FilesDone file 
 
   -- a list that was read
   pub times_within : (list : Option (List ℕ)) (b : Answer) (times : Times)
-      → Reads (list_fault list job places) b (times ≡ list_times list job places) → b ≡ Done → TimesSound job places times
+      → Reads (list_fault list job places) b (times ≡ list_times list job places) → b ≡ Ok tt → TimesSound job places times
   times_within list b times read fine =
       rw (reads_value read fine) (list_sound job places both_sound.0 both_sound.1 list (reads_none read fine))
 
@@ -151,25 +151,25 @@ module _ (file plan : List ℕ) (job : Job) (places : Plan) (d : FilesDone file 
         pass _ d.fault
         ∙ ap₂ (λ j x. loss_fault j loss or_else list_fault list j x or_else room_fault out (12 * tasks j)) (sym d.job_is) (sym d.plan_is)
 
-    pub no_node_lem : {r : Refusal} → a ≡ Refused r → replay_files file plan loss list out ≡ record { answer = a; buffer = out }
+    pub no_node_lem : {r : Refusal} → a ≡ Err r → replay_files file plan loss list out ≡ record { answer = a; buffer = out }
     unfolding replay_files
     no_node_lem {r} q = refuses _ out (to_loss ∙ stop _ ((answered_refused _ r).0 (sym ea ∙ q))) q
 
-    module _ (there : a ≡ Done) (b : Answer) (times : Times)
+    module _ (there : a ≡ Ok tt) (b : Answer) (times : Times)
         (read : Reads (list_fault list job places) b (times ≡ list_times list job places)) where
       to_list : replay_fault file plan loss list out ≡ (list_fault list job places or_else room_fault out (12 * tasks job))
       to_list = to_loss ∙ pass _ ((answered_done _).0 (sym ea ∙ there))
 
-      pub bad_list : {r : Refusal} → b ≡ Refused r → replay_files file plan loss list out ≡ record { answer = b; buffer = out }
+      pub bad_list : {r : Refusal} → b ≡ Err r → replay_files file plan loss list out ≡ record { answer = b; buffer = out }
       unfolding replay_files
       bad_list q = refuses _ out (to_list ∙ stop _ (reads_some read q)) q
 
-      module _ (fine : b ≡ Done) where
+      module _ (fine : b ≡ Ok tt) where
         to_room : replay_fault file plan loss list out ≡ room_fault out (12 * tasks job)
         to_room = to_list ∙ pass _ (reads_none read fine)
 
         pub no_room : length out < 12 * tasks job
-            → replay_files file plan loss list out ≡ record { answer = Refused (ShortBuffer (12 * tasks job)); buffer = out }
+            → replay_files file plan loss list out ≡ record { answer = Err (ShortBuffer (12 * tasks job)); buffer = out }
         unfolding replay_files room_fault unless
         no_room h = rw (to_room, lt-leb (12 * tasks job) (length out) h)
 
@@ -181,9 +181,9 @@ module _ (file plan : List ℕ) (job : Job) (places : Plan) (d : FilesDone file 
 
         pub replayed : 12 * tasks job ≤ length out → (buffer : List ℕ)
             → buffer ≡ replay_bytes job places times loss ++ drop (12 * tasks job) out
-            → replay_files file plan loss list out ≡ record { answer = Done; buffer = buffer }
+            → replay_files file plan loss list out ≡ record { answer = Ok tt; buffer = buffer }
         unfolding replay_files room_fault unless
         replayed h buffer e =
             let fine_room : replay_fault file plan loss list out ≡ none = to_room ∙ rw (le-leb (12 * tasks job) (length out) h) in
             rw (fine_room, ← same_bytes, length_run job (ended_rows job places times) (replay_times job places times loss))
-            (ap (λ x. record { answer = Done; buffer = x }) (sym e))
+            (ap (λ x. record { answer = Ok tt; buffer = x }) (sym e))

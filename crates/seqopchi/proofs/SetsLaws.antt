@@ -10,8 +10,8 @@ use Rattle.reader.specs.declared.job.Job.{Job}
 use Rattle.reader.specs.declared.plan.Plan.{Plan}
 use Rattle.reader.specs.declared.refusal.Refusal.{Refusal}
 use Rattle.reader.specs.declared.refusal.Refusal.TheVariants.{ShortBuffer}
-use Rattle.reader.specs.declared.refusal.Answer.{Answer}
-use Rattle.reader.specs.declared.refusal.Answer.TheVariants.{Done, Refused}
+use Rattle.reader.specs.Refusals.{Answer}
+use Rattle.std.specs.Prelude.{Ok, Err}
 use Rattle.reader.specs.First.{unless}
 use Rattle.reader.specs.Entries.{tasks}
 use Rattle.reader.proofs.Chain.{pass, stop}
@@ -28,7 +28,7 @@ pub length_faults : (job : Job) (plan : Plan) → length (fault_bytes job plan) 
 unfolding fault_bytes
 length_faults job plan = length_rows 1 (λ j. fault_number job plan j ∷ []) (λ j. refl) (tasks job) ∙ omega arith
 
-pub sets_stops : (file plan out : List ℕ) {r : Refusal} (a : Answer) → files_fault file plan ≡ some r → a ≡ Refused r
+pub sets_stops : (file plan out : List ℕ) {r : Refusal} (a : Answer) → files_fault file plan ≡ some r → a ≡ Err r
     → sets_files file plan out ≡ record { answer = a; buffer = out }
 unfolding sets_files sets_fault
 sets_stops file plan out a bad q = refuses _ out (stop _ bad) q
@@ -39,14 +39,14 @@ module _ (file plan : List ℕ) (job : Job) (places : Plan) (d : FilesDone file 
   to_room = pass _ d.fault ∙ ap (λ j. room_fault out (4 * tasks j)) (sym d.job_is)
 
   pub sets_no_room : length out < 4 * tasks job
-      → sets_files file plan out ≡ record { answer = Refused (ShortBuffer (4 * tasks job)); buffer = out }
+      → sets_files file plan out ≡ record { answer = Err (ShortBuffer (4 * tasks job)); buffer = out }
   unfolding sets_files room_fault unless
   sets_no_room h = rw (to_room, lt-leb (4 * tasks job) (length out) h)
 
   pub sets_put : 4 * tasks job ≤ length out → (sets : List ℕ)
       → ((j : ℕ) → j < tasks job → get_or sets (2 * j + 1) 0 ≡ fault_number job places j) → (b : List ℕ)
       → Rows (λ j. get_or sets (2 * j + 1) 0 ∷ []) 4 out 0 (tasks job) b (4 * tasks job)
-      → sets_files file plan out ≡ record { answer = Done; buffer = b }
+      → sets_files file plan out ≡ record { answer = Ok tt; buffer = b }
   unfolding sets_files room_fault unless fault_bytes
   sets_put h sets told b put =
       let fine_room : sets_fault file plan out ≡ none = to_room ∙ rw (le-leb (4 * tasks job) (length out) h) in
@@ -55,4 +55,4 @@ module _ (file plan : List ℕ) (job : Job) (places : Plan) (d : FilesDone file 
       ap pack (flat_same (tasks job) _ _ (λ j p. ap (λ v. v ∷ []) (told j p))) in
       let is : b ≡ fault_bytes job places ++ drop (4 * tasks job) out =
       put.puts.buffer ∙ ap (λ s. splice out 0 s) numbers ∙ splice_front out _ (4 * tasks job) (length_faults job places) in
-      rw (fine_room, same, length_faults job places) (ap (λ x. record { answer = Done; buffer = x }) (sym is))
+      rw (fine_room, same, length_faults job places) (ap (λ x. record { answer = Ok tt; buffer = x }) (sym is))

@@ -12,8 +12,8 @@ use native.Mathlib.Omega.{arith}
 use Rattle.reader.specs.declared.job.Job.{Job}
 use Rattle.reader.specs.declared.refusal.Refusal.{Refusal}
 use Rattle.reader.specs.declared.refusal.Refusal.TheVariants.{Overlap}
-use Rattle.reader.specs.declared.refusal.Answer.{Answer}
-use Rattle.reader.specs.declared.refusal.Answer.TheVariants.{Done, Refused}
+use Rattle.reader.specs.Refusals.{Answer}
+use Rattle.std.specs.Prelude.{Ok, Err}
 use Rattle.reader.specs.Tests.{◌and◌, ◌or◌, ◌implies◌}
 use Rattle.reader.specs.First.{first, every, any}
 use Rattle.reader.specs.Entries.{tasks, deadline, no_node}
@@ -218,9 +218,9 @@ module _ (job : Job) (cs : Copies) (leave : List ℕ) (w : Placed job cs leave) 
     -- of the answer for pairs
     module _ (strict : Bool) (v : Answer)
         (is : v ≡ answered (first (tasks job) (pair_breach (table cs.node cs.start cs.finish y.started) (tasks job)))) where
-      pub not_apart : (r : Refusal) → v ≡ Refused r → Says strict false
+      pub not_apart : (r : Refusal) → v ≡ Err r → Says strict false
       not_apart r e = (λ h. clash false h refl, λ p. let passed = (answered_done _).1 ((passes_is strict).1 p).2 in never (cc))
 
       pub passing : (strict implies every (tasks job) (ends_in y.ended)) ≡ true → (d : Bool) → d ≡ every (tasks job) (done_in job.tasks cs.finish y.ended)
-          → d ≡ true → v ≡ Done → Says strict true
+          → d ≡ true → v ≡ Ok tt → Says strict true
       passing ends d id ed ev = (λ h. (passes_is strict).0 (ends, sym id ∙ ed, (answered_done _).0 (sym is ∙ ev)), λ p. refl)

@@ -9,8 +9,8 @@ use native.Mathlib.Omega.{arith}
 use Rattle.reader.specs.declared.job.Job.{Job}
 use Rattle.reader.specs.declared.plan.Plan.{Plan}
 use Rattle.reader.specs.declared.refusal.Refusal.{Refusal}
-use Rattle.reader.specs.declared.refusal.Answer.{Answer}
-use Rattle.reader.specs.declared.refusal.Answer.TheVariants.{Done, Refused}
+use Rattle.reader.specs.Refusals.{Answer}
+use Rattle.std.specs.Prelude.{Ok, Err}
 use Rattle.reader.specs.JobFile.{job_at}
 use Rattle.reader.specs.Refusals.{tell, packed, answered, result_number}
 use Rattle.reader.specs.Sound.{Sound, PlanSound}
@@ -27,7 +27,7 @@ use Rattle.seqopchi.proofs.Unpacked.{judge_unpacks}
 use Rattle.trial.specs.Calls.{Answers, TrialAnswers}
 
 -- a file is refused, and that is handed on
-pub tried_stops : (file plan : List ℕ) {r : Refusal} (a : Answer) (n : ℕ) → files_fault file plan ≡ some r → a ≡ Refused r → n ≡ result_number a
+pub tried_stops : (file plan : List ℕ) {r : Refusal} (a : Answer) (n : ℕ) → files_fault file plan ≡ some r → a ≡ Err r → n ≡ result_number a
     → TrialAnswers file plan n
 unfolding Answers
 tried_stops file plan a n bad q e = rw bad (e ∙ ap result_number q)
@@ -71,7 +71,7 @@ module _ (file plan : List ℕ) (n : ℕ) (answers : TrialAnswers file plan n) w
         (rw fine at answers)
 
     -- and the judge's call 0 exactly if it passes the plan
-    passed_is : (judged ≡ 0) ↔ (judge (job_at file) (plan_in file plan) ≡ Done)
+    passed_is : (judged ≡ 0) ↔ (judge (job_at file) (plan_in file plan) ≡ Ok tt)
     unfolding judge_files judge
     passed_is = (
       λ e. sym (ap answered (pass _ fine)) ∙ result_done _ e,

@@ -2,7 +2,7 @@
 use Rattle.std.specs.Prelude.{ℕ, List, ◌⊎◌, ◌≡◌}
 use Rattle.std.proofs.Math.Option.{Option, none, some}
 use Rattle.reader.specs.declared.refusal.Refusal.{Refusal}
-use Rattle.reader.specs.declared.refusal.Answer.TheVariants.{Refused}
+use Rattle.std.specs.Prelude.{Err}
 use Rattle.reader.specs.Refusals.{told, packed, result_number}
 use Rattle.reader.specs.JobFile.{job_at}
 use Rattle.rules.specs.Trial.{Trial}
@@ -14,7 +14,7 @@ says_no = packed (told 0 1 0)
 
 -- the result of a question: the fault of reading; else 0 where what is asked is so, and that of no where it is not
 unfoldable pub Answers : Option Refusal → Type 0 → ℕ → Type 0
-Answers (some f) asked r = r ≡ result_number (Refused f)
+Answers (some f) asked r = r ≡ result_number (Err f)
 Answers none asked r = ((r ≡ 0) × asked) ⊎ ((r ≡ says_no) × (asked → ⊥))
 
 -- 'Unreadable files are refused as the judge does.' Of others it is asked whether the trial says yes

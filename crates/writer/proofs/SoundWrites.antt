@@ -6,7 +6,7 @@ use Prim.Native.Nat.{ℕ, ◌≤◌}
 use Rattle.reader.specs.declared.job.Job.{Job}
 use Rattle.reader.specs.declared.plan.Place.{Place}
 use Rattle.reader.specs.declared.plan.Plan.{Plan}
-use Rattle.reader.specs.declared.refusal.Answer.TheVariants.{Done}
+use Rattle.std.specs.Prelude.{Ok}
 use Rattle.reader.specs.First.{◌or_else◌, fill}
 use Rattle.reader.specs.Limits.{max_tasks}
 use Rattle.reader.specs.Entries.{tasks, no_place}
@@ -34,12 +34,12 @@ pub sound_plan_length : (job : Job) (plan : Plan) → Sound job → PlanSound jo
 sound_plan_length job plan h g = plan_length_lem (plan_bytes plan) job (plan_good (plan_bytes plan) job (sound_plan_reads job plan h g))
 
 -- a job that was read is the job in its own bytes
-pub job_again : (f : List ℕ) → Bytes f → (read_job f).answer ≡ Done → job_at (job_bytes (read_job f).job) ≡ (read_job f).job
+pub job_again : (f : List ℕ) → Bytes f → (read_job f).answer ≡ Ok tt → job_at (job_bytes (read_job f).job) ≡ (read_job f).job
 job_again f b d =
     let j = job_done f d in
     ap (λ job. job_at (job_bytes job)) j.job ∙ ap job_at (job_written_back f b j.fault) ∙ sym j.job
 
-pub sound_plan_written : (f : List ℕ) (plan : Plan) (out : List ℕ) → Bytes f → (read_job f).answer ≡ Done → PlanSound (read_job f).job plan →
+pub sound_plan_written : (f : List ℕ) (plan : Plan) (out : List ℕ) → Bytes f → (read_job f).answer ≡ Ok tt → PlanSound (read_job f).job plan →
     write_plan_fault (read_job f).job plan out ≡ room_fault out (plan_length (tasks (read_job f).job))
 unfolding write_plan_fault ◌or_else◌
 sound_plan_written f plan out b d g =

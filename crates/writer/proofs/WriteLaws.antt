@@ -12,8 +12,8 @@ use Rattle.reader.specs.declared.plan.Plan.{Plan}
 use Rattle.reader.specs.declared.plan_file.PlanRead.{PlanRead}
 use Rattle.reader.specs.declared.refusal.Refusal.{Refusal}
 use Rattle.reader.specs.declared.refusal.Refusal.TheVariants.{ShortBuffer}
-use Rattle.reader.specs.declared.refusal.Answer.{Answer}
-use Rattle.reader.specs.declared.refusal.Answer.TheVariants.{Done, Refused}
+use Rattle.reader.specs.Refusals.{Answer}
+use Rattle.std.specs.Prelude.{Ok, Err}
 use Rattle.reader.specs.First.{◌or_else◌, unless}
 use Rattle.reader.specs.Refusals.{answered}
 use Rattle.reader.specs.Sound.{Sound}
@@ -27,12 +27,12 @@ use Rattle.reader.proofs.Promise.{job_done}
 use Rattle.writer.proofs.PutLaws.{length_pack, take_splice}
 
 module _ (s out : List ℕ) where
-  pub send_short : length out < length s → writes (room_fault out (length s)) s out ≡ record { answer = Refused (ShortBuffer (length s)); buffer = out }
+  pub send_short : length out < length s → writes (room_fault out (length s)) s out ≡ record { answer = Err (ShortBuffer (length s)); buffer = out }
   unfolding room_fault unless
   send_short h = rw lt-leb
 
   pub send_whole : (b : List ℕ) → length s ≤ length out → b ≡ s →
-      writes (room_fault out (length s)) s out ≡ record { answer = Done; buffer = b ++ drop (length s) out }
+      writes (room_fault out (length s)) s out ≡ record { answer = Ok tt; buffer = b ++ drop (length s) out }
   unfolding room_fault unless
   send_whole b h w = rw (le-leb, w)
 
@@ -44,11 +44,11 @@ front d vs b n p =
 
 -- a fault, or none, and then the next
 module _ (f g : Option Refusal) (s out : List ℕ) (a : Answer) (is : a ≡ answered f) where
-  writes_refused : {r : Refusal} → a ≡ Refused r → writes (f or_else g) s out ≡ record { answer = a; buffer = out }
+  writes_refused : {r : Refusal} → a ≡ Err r → writes (f or_else g) s out ≡ record { answer = a; buffer = out }
   unfolding ◌or_else◌
   writes_refused {r} h = rw ((answered_refused f r).0 (sym is ∙ h), h)
 
-  writes_next : a ≡ Done → writes (f or_else g) s out ≡ writes g s out
+  writes_next : a ≡ Ok tt → writes (f or_else g) s out ≡ writes g s out
   unfolding ◌or_else◌
   writes_next h = rw ((answered_done f).0 (sym is ∙ h))
 
@@ -62,20 +62,20 @@ module _ (job : Job) (out : List ℕ) {z b : List ℕ} {n : ℕ} (put : Puts z 0
   unfolding read_job
   answer = ap (λ x. x.answer) (read ∙ ap read_job file)
 
-  pub job_refused : {q : Refusal} → r.answer ≡ Refused q → write_job job out ≡ record { answer = r.answer; buffer = out }
+  pub job_refused : {q : Refusal} → r.answer ≡ Err q → write_job job out ≡ record { answer = r.answer; buffer = out }
   unfolding write_job write_job_fault
   job_refused h = writes_refused (job_fault (job_bytes job)) (room_fault out (length (job_bytes job))) (job_bytes job) out r.answer answer h
 
-  pub job_sent : r.answer ≡ Done → write_job job out ≡ writes (room_fault out (length (take n b))) (take n b) out
+  pub job_sent : r.answer ≡ Ok tt → write_job job out ≡ writes (room_fault out (length (take n b))) (take n b) out
   unfolding write_job write_job_fault
   job_sent h = rw file (writes_next (job_fault (job_bytes job)) (room_fault out (length (job_bytes job))) (job_bytes job) out r.answer answer h)
 
   -- and then a plan's
-  pub plan_job_refused : (plan : Plan) {q : Refusal} → r.answer ≡ Refused q → write_plan job plan out ≡ record { answer = r.answer; buffer = out }
+  pub plan_job_refused : (plan : Plan) {q : Refusal} → r.answer ≡ Err q → write_plan job plan out ≡ record { answer = r.answer; buffer = out }
   unfolding write_plan write_plan_fault
   plan_job_refused plan h = writes_refused (job_fault (job_bytes job)) _ (plan_bytes plan) out r.answer answer h
 
-  module _ (done : r.answer ≡ Done) where
+  module _ (done : r.answer ≡ Ok tt) where
     pub back_sound : Sound r.job
     back_sound = rw read (job_done (take n b) (rw read at done)).sound
 
@@ -99,10 +99,10 @@ module _ (job : Job) (out : List ℕ) {z b : List ℕ} {n : ℕ} (put : Puts z 0
       unfolding write_plan write_plan_fault rest
       next = writes_next (job_fault (job_bytes job)) _ (plan_bytes plan) out r.answer answer done
 
-      pub plan_refused : {q : Refusal} → p.answer ≡ Refused q → write_plan job plan out ≡ record { answer = p.answer; buffer = out }
+      pub plan_refused : {q : Refusal} → p.answer ≡ Err q → write_plan job plan out ≡ record { answer = p.answer; buffer = out }
       unfolding rest
       plan_refused h = next ∙ writes_refused _ _ (plan_bytes plan) out p.answer plan_answer h
 
-      pub plan_sent : p.answer ≡ Done → write_plan job plan out ≡ writes (room_fault out (length (take m d))) (take m d) out
+      pub plan_sent : p.answer ≡ Ok tt → write_plan job plan out ≡ writes (room_fault out (length (take m d))) (take m d) out
       unfolding rest
       plan_sent h = next ∙ rw plan_file_lem (writes_next _ _ (plan_bytes plan) out p.answer plan_answer h)

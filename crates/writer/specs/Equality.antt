@@ -3,7 +3,7 @@
 use Rattle.std.specs.Prelude.{ℕ, ◌<◌, List, ◌≡◌}
 use Rattle.reader.specs.declared.job.Job.{Job}
 use Rattle.reader.specs.declared.plan.Plan.{Plan}
-use Rattle.reader.specs.declared.refusal.Answer.TheVariants.{Done}
+use Rattle.std.specs.Prelude.{Ok}
 use Rattle.reader.specs.Entries.{nodes, tasks, links, node, task, link, place}
 use Rattle.reader.specs.JobFile.{read_job}
 use Rattle.reader.specs.PlanFile.{read_plan}
@@ -25,9 +25,9 @@ pub record SamePlan (a b : Plan) : Type 0 where
 
 -- s reads well, as the same job; or, after its job, as the same plan
 pub record JobIn (s : List ℕ) (job : Job) : Type 0 where
-  pub answer : (read_job s).answer ≡ Done
+  pub answer : (read_job s).answer ≡ Ok tt
   pub same : SameJob (read_job s).job job
 
 pub record PlanIn (s : List ℕ) (job : Job) (plan : Plan) : Type 0 where
-  pub answer : (read_plan s job).answer ≡ Done
+  pub answer : (read_plan s job).answer ≡ Ok tt
   pub same : SamePlan (read_plan s job).plan plan

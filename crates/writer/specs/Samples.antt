@@ -1,7 +1,7 @@
 -- Samples of document 01, and of requests (ii), (iv) and (vi), that reading and writing decide.
 use Rattle.std.specs.Prelude.{ℕ, ◌≡◌, List, [], ◌∷◌, ◌++◌, replicate}
-use Rattle.reader.specs.declared.refusal.Answer.{Answer}
-use Rattle.reader.specs.declared.refusal.Answer.TheVariants.{Done, Refused}
+use Rattle.reader.specs.Refusals.{Answer}
+use Rattle.std.specs.Prelude.{Ok, Err}
 use Rattle.reader.specs.declared.refusal.Told.{Told}
 use Rattle.reader.specs.Refusals.{told, tell}
 use Rattle.reader.specs.declared.job.Job.{Job}
@@ -12,8 +12,8 @@ use Rattle.writer.specs.Equality.{SameJob}
 
 -- the number and both places of an answer, all 0 for success
 abbrev pub shown : Answer → Told
-shown Done = told 0 0 0
-shown (Refused r) = tell r
+shown (Ok tt) = told 0 0 0
+shown (Err r) = tell r
 
 -- a job of p nodes and one task that no node can run
 abbrev pub nodes_file : ℕ → List ℕ

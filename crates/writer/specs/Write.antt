@@ -9,8 +9,8 @@ use Rattle.reader.specs.declared.plan.Place.{Place}
 use Rattle.reader.specs.declared.plan.Plan.{Plan}
 use Rattle.reader.specs.declared.refusal.Refusal.{Refusal}
 use Rattle.reader.specs.declared.refusal.Refusal.TheVariants.{ShortBuffer}
-use Rattle.reader.specs.declared.refusal.Answer.{Answer}
-use Rattle.reader.specs.declared.refusal.Answer.TheVariants.{Done}
+use Rattle.reader.specs.Refusals.{Answer}
+use Rattle.std.specs.Prelude.{Ok}
 use Rattle.reader.specs.First.{◌or_else◌, unless}
 use Rattle.reader.specs.Limits.{max_nodes, max_tasks, max_links}
 use Rattle.reader.specs.Entries.{nodes, tasks, links, node, task, link, place}
@@ -100,7 +100,7 @@ writes fault s out = record { answer = answered fault; buffer = buffer_after fau
 
 -- the whole of s written
 abbrev pub wrote : List ℕ → List ℕ → Written
-wrote s out = record { answer = Done; buffer = s ++ drop (length s) out }
+wrote s out = record { answer = Ok tt; buffer = s ++ drop (length s) out }
 
 unfoldable pub write_job : Job → List ℕ → Written
 write_job job out = writes (write_job_fault job out) (job_bytes job) out

@@ -2,7 +2,7 @@
 use mathlib.Core.Path.{sym, ◌∙◌, ap₂}
 use native.Mathlib.Omega.{arith}
 use Rattle.reader.specs.declared.refusal.Refusal.TheVariants.{BackupUnfed}
-use Rattle.reader.specs.declared.refusal.Answer.TheVariants.{Refused}
+use Rattle.std.specs.Prelude.{Err}
 use Rattle.judge.specs.Backups.{backup_breach}
 use Rattle.judge.proofs.ScanLaws.{clear_start, clear_done, kept, broken}
 use Rattle.judge.proofs.LinkLaws.{primary_fits, backup_fits}
@@ -34,7 +34,7 @@ unfolding backup_breach
 returns-then-not-fed c =
     let from = c.index-i.ensures.0 in
     let to = c.index-j.ensures.0 in
-    ap₂ (λ i j. Refused (BackupUnfed i j)) from to ∙ broken _ _ _ _ c.loop-k.invariant c.loop-k-test.true
+    ap₂ (λ i j. Err (BackupUnfed i j)) from to ∙ broken _ _ _ _ c.loop-k.invariant c.loop-k-test.true
     (sym (feeds_at _ _ _ _ _ _ from to _ _ _ _ c.result_at-p.ensures c.result_at-b.ensures
     c.copy_at-c.ensures c.fed.ensures) ∙ c.if-not-fed.true)
 
