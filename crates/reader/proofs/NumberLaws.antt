@@ -1,6 +1,6 @@
 -- Laws of one number's answer: what the code finds at an offset, and what each case of the answer says of the fault.
 use Prim.Native.Nat.{ℕ, ◌+◌, ◌-◌, ◌≤◌, ◌<◌}
-use mathlib.Core.Path.{◌≡◌, refl, sym, ap, ◌∙◌}
+use mathlib.Core.Path.{◌≡◌, sym, ap, ◌∙◌}
 use mathlib.Core.List.{List, ◌++◌}
 use mathlib.Core.Bool.{true}
 use mathlib.Core.Option.{Option, none, some}

@@ -10,7 +10,7 @@ use native.Mathlib.Omega.{arith}
 use Rattle.reader.specs.declared.plan.Place.{Place}
 use Rattle.reader.specs.declared.refusal.Refusal.{Refusal}
 use Rattle.reader.specs.declared.refusal.Refusal.TheVariants.{Unable}
-use Rattle.std.specs.Prelude.{Result, Ok, Err}
+use Rattle.std.specs.Prelude.{Ok, Err}
 use Rattle.reader.specs.Refusals.{resulted}
 use Rattle.reader.specs.First.{unless}
 use Rattle.reader.specs.Number.{number_at, value_fault}

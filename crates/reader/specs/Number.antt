@@ -1,6 +1,6 @@
 -- Numbers of a file: 'Each number is 4 bytes, unsigned, low byte first.'
 use Rattle.std.specs.Prelude.{ℕ, ◌+◌, ◌*◌, ◌/◌, ◌%◌, ◌^◌, ◌<◌, List, [], ◌∷◌, length, get_or, leb}
-use Rattle.std.proofs.Math.Option.{Option, none, some}
+use Rattle.std.proofs.Math.Option.{Option}
 use Rattle.reader.specs.declared.refusal.Refusal.{Refusal}
 use Rattle.reader.specs.declared.refusal.Refusal.TheVariants.{Short, Version, Count, Value}
 use Rattle.reader.specs.Tests.{◌and◌}

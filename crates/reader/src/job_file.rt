@@ -173,13 +173,7 @@ fn read_tasks(
 pub fn below(l: Link, m: Link) -> bool
     ensures { result ≡ below_of l m }
 {
-    if l.from < m.from {
-        return true;
-    }
-    if l.from == m.from {
-        return l.to < m.to;
-    }
-    false
+    (l.from, l.to) < (m.from, m.to)
 }
 
 // One link at an offset, between tasks below `tasks`, behind the link `before`.

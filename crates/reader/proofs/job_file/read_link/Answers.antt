@@ -1,5 +1,4 @@
 -- `reader::job_file::read_link` meets its contract.
-use mathlib.Core.Path.{refl}
 use Rattle.reader.proofs.NumberLaws.{is_none, is_value, is_fault}
 use Rattle.reader.proofs.Chain.{stopped, broken, finished}
 use Rattle.reader.proofs.LinkLaws.{bad_from, bad_to, bad_delay, bad_order, whole_link, link_is}

@@ -1,5 +1,4 @@
 -- `reader::job_file::read_task` meets its contract.
-use native.Mathlib.Omega.{arith}
 use mathlib.Core.List.{[], ◌∷◌}
 use mathlib.Core.Path.{refl}
 use Rattle.reader.specs.Fields.{task_fields, reaches, width_if, fault_if, value_if}

@@ -1,5 +1,4 @@
 -- A whole plan file after its job: each refusal the first.
-use mathlib.Core.Path.{refl}
 use Rattle.reader.specs.PlanFile.{places_fault, read_plan}
 use Rattle.reader.proofs.NumberLaws.{is_none, is_value, is_fault}
 use Rattle.reader.proofs.Chain.{handed, refused, given, reads_none, reads_some, reads_value}
