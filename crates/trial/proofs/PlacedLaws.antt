@@ -1,13 +1,12 @@
 -- Laws of the table of a plan: its entries are the plan's copies, and what is asked of each link and task.
 use Prim.Native.Nat.{ℕ, ◌+◌, ◌*◌, ◌≤◌, ◌<◌}
 use mathlib.Core.List.{List}
-use mathlib.Core.Path.{◌≡◌, sym, ◌∙◌, ap, subst}
+use mathlib.Core.Path.{◌≡◌, sym, ◌∙◌, subst}
 use lib.ListN.{get_or}
 use native.Mathlib.Omega.{arith}
 use Rattle.reader.specs.declared.job.Job.{Job}
-use Rattle.reader.specs.declared.job.Node.{Node}
 use Rattle.reader.specs.Limits.{max_nodes, max_start}
-use Rattle.reader.specs.Entries.{nodes, tasks, links, link, no_node}
+use Rattle.reader.specs.Entries.{nodes, tasks, links, link}
 use Rattle.rules.specs.declared.Copy.{Copy}
 use Rattle.rules.specs.Copies.{copy, domain}
 use Rattle.rules.specs.Rules.{Row, rows}
@@ -41,7 +40,7 @@ module _ (job : Job) (cs : Copies) (leave : List ℕ) (w : Placed job cs leave) 
         backup = omega (arith, w.leaving.soon (2 * l.from + 1), w.sound.delay_most k p);
       }
 
-  pub node_low : (j : ℕ) (a : Role) → j < tasks job → (entry cs (at j a)).node < nodes job
+  node_low : (j : ℕ) (a : Role) → j < tasks job → (entry cs (at j a)).node < nodes job
   unfolding copy
   node_low j primary p =
       subst (λ (c : Copy). c.node < nodes job) (sym (copied_at j primary p ∙ row_primary job w.plan (tasks job) j p)) (w.reads.primary_node j p)
@@ -55,19 +54,15 @@ module _ (job : Job) (cs : Copies) (leave : List ℕ) (w : Placed job cs leave) 
   start_low j backup p =
       subst (λ (c : Copy). c.start ≤ max_start) (sym (copied_at j backup p ∙ row_backup job w.plan (tasks job) j p)) (w.reads.backup_start j p)
 
-  -- the node of its copy
-  pub node_of : (j : ℕ) (a : Role) → j < tasks job
-      → get_or job.nodes (entry cs (at j a)).node no_node ≡ get_or job.nodes (copy_of a (t j)).node no_node
-  node_of j a p = ap (λ (c : Copy). get_or job.nodes c.node no_node) (copied_at j a p)
-
-  pub settleable : (j : ℕ) → j < tasks job → (own : Node) → own ≡ get_or job.nodes (entry cs (2 * j)).node no_node
-      → Settleable cs.start cs.finish own j
-  settleable j p own is =
+  pub settleable : (j : ℕ) → j < tasks job → Settleable job cs j
+  settleable j p =
       record {
         low = omega (arith, w.sound.tasks_most);
+        primary_node = omega (arith, node_low j primary p, w.sound.nodes_most);
+        backup_node = omega (arith, node_low j backup p, w.sound.nodes_most);
         primary_start = start_low j primary p;
         backup_start = start_low j backup p;
-        detected = rw is (omega (arith, w.sound.detect_most _ (node_low j primary p), w.leaving.is (2 * j) (omega arith), w.leaving.soon (2 * j)));
+        detected = omega (arith, w.sound.detect_most _ (node_low j primary p), w.leaving.is (2 * j) (omega arith), w.leaving.soon (2 * j));
       }
 
   -- the nodes of its entries are of a rack; and of each primary there is a group, and a tick before its finish

@@ -2,12 +2,13 @@
 use Prim.Native.Nat.{ℕ, ◌+◌, ◌*◌}
 use mathlib.Core.Bool.{cond}
 use mathlib.Core.List.{List}
-use mathlib.Core.Path.{◌≡◌, ◌∙◌, ap}
+use mathlib.Core.Path.{◌≡◌, refl, ◌∙◌, ap}
 use lib.Bits.{bit_and}
 use lib.Dec.{leb}
 use lib.ListN.{get_or, set}
+use Rattle.reader.specs.declared.job.Job.{Job}
 use Rattle.reader.specs.declared.job.Link.{Link}
-use Rattle.reader.specs.declared.job.Node.{Node}
+use Rattle.reader.specs.Entries.{ready}
 use Rattle.rules.specs.declared.Copy.{Copy}
 use Rattle.copies.specs.declared.table.Copies.{Copies}
 use Rattle.copies.specs.declared.arrival.Outgoing.{Outgoing}
@@ -15,7 +16,7 @@ use Rattle.copies.specs.Arrival.{result_at}
 use Rattle.copies.specs.Table.{entry}
 use Rattle.trial.specs.declared.words.Losses.{Losses}
 use Rattle.trial.specs.Words.{run_count, without_of, spared_in}
-use Rattle.trial.specs.Runs.{fed_of, fed_one, fed_with, Settled}
+use Rattle.trial.specs.Runs.{fed_of, fed_one, fed_with, node_of, Settled}
 
 -- one link, as the code goes
 module _ (cs : Copies) (leave : List ℕ) (l : Link) (ended : List ℕ) where
@@ -38,17 +39,18 @@ module _ (cs : Copies) (leave : List ℕ) (l : Link) (ended : List ℕ) where
       ∙ ap (fed_one cs leave l ended (2 * l.to + 1)) (fed_one_lem (2 * l.to) fed p b q v ep eb eq ev)
 
 -- one task, as the code goes
-module _ (start finish fed : List ℕ) (losses : Losses) (own other : Node) (ready j : ℕ) (ended started : List ℕ) where
-  pub settled_is : (may call called pe ps be bs : ℕ) → may ≡ cond (leb ready (get_or start (2 * j) 0)) (get_or fed (2 * j) 0) 0
-      → pe ≡ spared_in losses own.group (get_or finish (2 * j) 0) run_count
-      → ps ≡ spared_in losses own.group (get_or start (2 * j) 0 + 1) run_count
-      → call ≡ cond (leb (get_or finish (2 * j) 0 + own.detect) (get_or start (2 * j + 1) 0)) (get_or fed (2 * j + 1) 0) 0
+module _ (job : Job) (cs : Copies) (fed : List ℕ) (losses : Losses) (j : ℕ) (ended started : List ℕ) where
+  pub settled_is : (c d : Copy) (may call called pe ps be bs : ℕ) → c ≡ entry cs (2 * j) → d ≡ entry cs (2 * j + 1)
+      → may ≡ cond (leb (ready job j) c.start) (get_or fed (2 * j) 0) 0
+      → pe ≡ spared_in losses (node_of job c).group c.finish run_count
+      → ps ≡ spared_in losses (node_of job c).group (c.start + 1) run_count
+      → call ≡ cond (leb (c.finish + (node_of job c).detect) d.start) (get_or fed (2 * j + 1) 0) 0
       → called ≡ without_of call (bit_and may pe)
-      → be ≡ spared_in losses other.group (get_or finish (2 * j + 1) 0) run_count
-      → bs ≡ spared_in losses other.group (get_or start (2 * j + 1) 0 + 1) run_count
-      → Settled start finish fed losses own other ready j (record { ended = ended; started = started }) (record {
+      → be ≡ spared_in losses (node_of job d).group d.finish run_count
+      → bs ≡ spared_in losses (node_of job d).group (d.start + 1) run_count
+      → Settled job cs fed losses j (record { ended = ended; started = started }) (record {
         ended = set (set ended (2 * j) (bit_and may pe)) (2 * j + 1) (bit_and called be);
         started = set (set started (2 * j) (bit_and may ps)) (2 * j + 1) (bit_and called bs);
       })
-  settled_is may call called pe ps be bs em epe eps ec ecd ebe ebs =
-      record { ends = rw (ecd, ec, em, epe, ebe); starts = rw (ecd, ec, em, epe, eps, ebs) }
+  settled_is c d may call called pe ps be bs ep eb em epe eps ec ecd ebe ebs =
+      record { ends = rw (ecd, ec, em, epe, ebe, ep, eb) refl; starts = rw (ecd, ec, em, epe, eps, ebs, ep, eb) refl }

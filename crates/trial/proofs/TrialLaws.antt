@@ -1,10 +1,11 @@
 -- All passes together are the trial.
 use Prim.Native.Nat.{ℕ, ◌+◌, ◌-◌, ◌≤◌, ◌<◌}
 use mathlib.Core.Bool.{Bool, true, false}
-use mathlib.Core.List.{List, []}
+use mathlib.Core.List.{List}
 use mathlib.Core.Logic.{◌↔◌}
 use mathlib.Core.Path.{◌≡◌, refl, sym, subst}
-use borrow.Author.Tests.{lt-ltb, le-ltb}
+use lib.Dec.{leb}
+use borrow.Author.Tests.{lt-ltb, le-ltb, le-leb}
 use native.Mathlib.Decide.{dec_lt}
 use native.Mathlib.Omega.{arith}
 use Rattle.reader.specs.declared.job.Job.{Job}
@@ -20,23 +21,11 @@ use Rattle.rules.specs.Rules.{rows}
 use Rattle.rules.specs.Replay.{is_finished, replay}
 use Rattle.rules.specs.Trial.{Trial, good_under, tried_under, tried, loss_before}
 use Rattle.rules.proofs.TrialLaws.{tried_is}
-use Rattle.copies.specs.Table.{table}
+use Rattle.copies.specs.declared.table.Copies.{Copies}
 use Rattle.judge.specs.Tasks.{TasksJudged}
 use Rattle.trial.specs.Words.{run_count}
 use Rattle.trial.specs.Runs.{Placed}
 use Rattle.trial.specs.Passes.{loss_from, Passes}
-
--- the judge's pass over the tasks makes the table
-abbrev placed_is : (job : Job) (plan : Plan) → Sound job → PlanSound job plan → (node start finish sets leave : List ℕ) (v : Answer)
-    → TasksJudged job plan (table node start finish sets) leave v → Placed job (table node start finish []) leave
-placed_is job plan sound reads node start finish sets leave v h =
-    record {
-      plan = plan;
-      sound = sound;
-      reads = reads;
-      copied = record { primary = h.tabled.copied.primary; backup = h.tabled.copied.backup };
-      leaving = record { size = h.leaving.size; soon = h.leaving.soon; is = h.leaving.is };
-    }
 
 module _ (job : Job) (plan : Plan) where
   abbrev Ended : Loss → Type 0
@@ -101,14 +90,20 @@ module _ (job : Job) (plan : Plan) where
         before = before;
       }
 
-  -- what each pass answers, over the table of the plan
-  module _ (sound : Sound job) (reads : PlanSound job plan) (node start finish sets leave : List ℕ) (a : Answer)
-      (made : TasksJudged job plan (table node start finish sets) leave a) where
-    abbrev pub holds : Placed job (table node start finish []) leave
-    holds = placed_is job plan sound reads node start finish sets leave a made
+  -- what each pass answers, over the table of the plan, which the judge's pass over the tasks makes
+  module _ (sound : Sound job) (reads : PlanSound job plan) (cs : Copies) (leave : List ℕ) (a : Answer) (made : TasksJudged job plan cs leave a) where
+    abbrev pub holds : Placed job cs leave
+    holds =
+        record {
+          plan = plan;
+          sound = sound;
+          reads = reads;
+          copied = record { primary = made.tabled.copied.primary; backup = made.tabled.copied.backup };
+          leaving = record { size = made.leaving.size; soon = made.leaving.soon; is = made.leaving.is };
+        }
 
     abbrev Says : Bool → ℕ → Bool → Type 0
-    Says v begin strict = (w : Placed job (table node start finish []) leave) → (v ≡ true) ↔ Passes job w.plan begin strict
+    Says v begin strict = (w : Placed job cs leave) → (v ≡ true) ↔ Passes job w.plan begin strict
 
     trial_all : Trial job plan → All
     trial_all t = tried_all.0 ((tried_is job plan sound reads).1 t)
@@ -117,9 +112,9 @@ module _ (job : Job) (plan : Plan) where
     all_trial x = (tried_is job plan sound reads).0 (tried_all.1 x)
 
     pub pass_fails : (v : Bool) (begin : ℕ) (strict : Bool) → Says v begin strict → (strict ≡ true → tasks job ≤ begin) → v ≡ false
-        → (false ≡ true) ↔ Trial job plan
-    pass_fails v begin strict is behind e =
-        (λ h. clash false h refl, λ t. clash _ ((is holds).1 (all_passes (trial_all t) begin strict behind)) e)
+        → (b : Bool) → b ≡ false → (b ≡ true) ↔ Trial job plan
+    pass_fails v begin strict is behind e b f =
+        (λ h. clash b h f, λ t. clash _ ((is holds).1 (all_passes (trial_all t) begin strict behind)) e)
 
     module _ (u v : Bool) (is_first : Says u (tasks job) true) (ok_first : u ≡ true) (is_next : Says v 0 false) (ok_next : v ≡ true) where
       all_with : ((j : ℕ) → run_count ≤ j → j < tasks job → Good (loss_before job (rows job plan j).primary)) → Trial job plan
@@ -129,11 +124,11 @@ module _ (job : Job) (plan : Plan) where
             | no p ↦ rest j (omega arith) q
           ])
 
-      pub few_pass : tasks job ≤ run_count → (true ≡ true) ↔ Trial job plan
-      few_pass p = (λ h. all_with (λ j q r. absurd (let z : ⊥ = omega arith in z)), λ t. refl)
+      pub few_pass : tasks job ≤ run_count → (leb (tasks job) run_count ≡ true) ↔ Trial job plan
+      few_pass p = (λ h. all_with (λ j q r. absurd (let z : ⊥ = omega arith in z)), λ t. le-leb _ _ p)
 
-      pub last_pass : tasks job ≤ run_count + run_count → (x : Bool) → Says x run_count false → (x ≡ true) ↔ Trial job plan
-      last_pass most x is = (
-        λ h. all_with (λ j q r. passes_before run_count ((is holds).0 h) j r (omega arith) (omega arith)),
+      pub last_pass : (x : Bool) → Says x run_count false → (x ≡ true) ↔ Trial job plan
+      last_pass x is = (
+        λ h. all_with (λ j q r. passes_before run_count ((is holds).0 h) j r (omega arith) (omega (arith, sound.tasks_most))),
         λ t. (is holds).1 (all_passes (trial_all t) run_count false (λ s. clash false s refl)),
       )

@@ -15,7 +15,7 @@ use Rattle.reader.specs.declared.job.Link.{Link}
 use Rattle.reader.specs.declared.job.Node.{Node}
 use Rattle.reader.specs.Tests.{◌and◌, ◌or◌}
 use Rattle.reader.specs.First.{every}
-use Rattle.reader.specs.Entries.{nodes, tasks, links, ready, link, no_node}
+use Rattle.reader.specs.Entries.{nodes, tasks, links, ready, link}
 use Rattle.reader.proofs.TestLaws.{split, below_suc, and_yes}
 use Rattle.reader.proofs.FirstLaws.{every_start, every_more, every_rest}
 use Rattle.rules.specs.declared.Copy.{Copy}
@@ -37,7 +37,7 @@ use Rattle.replay.proofs.LinkOrder.{ahead}
 use Rattle.trial.specs.declared.runs.Outcomes.{Outcomes}
 use Rattle.trial.specs.declared.words.Losses.{Losses}
 use Rattle.trial.specs.Words.{run_count, Tells, Narrow, spared_in}
-use Rattle.trial.specs.Runs.{fed_by, fed_one, fed_with, may, primary_ends, primary_starts, called, backup_ends, backup_starts, of_task, Settled}
+use Rattle.trial.specs.Runs.{fed_by, fed_one, fed_with, node_of, may, primary_ends, primary_starts, called, backup_ends, backup_starts, of_task, Settled}
 use Rattle.trial.specs.Runs.{no_group, loss_at, Placed, at, Told, brings, Upto}
 use Rattle.trial.proofs.LossBits.{implied, free, turned, turned_call, ends_may, starts_may, stays_ends, stays_starts}
 use Rattle.trial.proofs.PlacedLaws.{copied_at}
@@ -204,121 +204,120 @@ module _ (job : Job) (cs : Copies) (leave : List ℕ) (w : Placed job cs leave) 
             ∙ sym (starts_may job (loss_at losses r) (copy_of a (t j)) (f r))
 
       -- what is said of its two copies
-      abbrev of_copies : Copy → Copy → (ℕ → ℕ → ℕ → ℕ → ℕ → ℕ → ℕ) → ℕ
-      of_copies c d f = f c.start c.finish d.start d.finish (get_or feds (2 * j) 0) (get_or feds (2 * j + 1) 0)
+      abbrev words : (Job → Losses → ℕ → Copy → Copy → ℕ → ℕ → ℕ) → ℕ
+      words f = f job losses (ready job j) (t j).primary (t j).backup (get_or feds (2 * j) 0) (get_or feds (2 * j + 1) 0)
 
-      is_copies : (f : ℕ → ℕ → ℕ → ℕ → ℕ → ℕ → ℕ)
-          → of_task f cs.start cs.finish feds j ≡ of_copies (t j).primary (t j).backup f
-      is_copies f = ap₂ (λ c d. of_copies c d f) (copied_at job cs leave w j primary below) (copied_at job cs leave w j backup below)
+      is_copies : (f : Job → Losses → ℕ → Copy → Copy → ℕ → ℕ → ℕ) → of_task (f job losses (ready job j)) cs feds j ≡ words f
+      is_copies f =
+          ap₂ (λ c d. f job losses (ready job j) c d (get_or feds (2 * j) 0) (get_or feds (2 * j + 1) 0))
+          (copied_at job cs leave w j primary below) (copied_at job cs leave w j backup below)
 
-      -- its nodes
-      module _ (own other : Node) (is_own : own ≡ get_or job.nodes (t j).primary.node no_node)
-          (is_other : other ≡ get_or job.nodes (t j).backup.node no_node) where
-        abbrev words : (Losses → Node → Node → ℕ → ℕ → ℕ → ℕ → ℕ → ℕ → ℕ → ℕ) → ℕ
-        words f = of_copies (t j).primary (t j).backup (f losses own other (ready job j))
+      abbrev own : Node
+      own = node_of job (t j).primary
 
-        may_primary : Tells (words may) (λ r. rule_ready job j (t j).primary and fed job t (x r) j (t j).primary)
-        unfolding rule_ready
-        may_primary r p = tells_picked (leb (ready job j) (t j).primary.start) _ _ (fed_all primary) r p ∙ turned _ _
+      abbrev other : Node
+      other = node_of job (t j).backup
 
-        in_own : domain job (t j).primary.node ≡ own.group
-        unfolding domain
-        in_own = rw is_own
+      may_primary : Tells (words may) (λ r. rule_ready job j (t j).primary and fed job t (x r) j (t j).primary)
+      unfolding rule_ready
+      may_primary r p = tells_picked (leb (ready job j) (t j).primary.start) _ _ (fed_all primary) r p ∙ turned _ _
 
-        in_other : domain job (t j).backup.node ≡ other.group
-        unfolding domain
-        in_other = rw is_other
+      in_own : domain job (t j).primary.node ≡ own.group
+      unfolding domain
+      in_own = refl
 
-        own_ends : Tells (words primary_ends) (λ r. is_finished (x r j).primary)
-        unfolding run_task run_primary
-        own_ends r p = may_end primary own.group _ _ may_primary in_own r p ∙ ap (λ y. is_finished y.primary) (sym (run_own r))
+      in_other : domain job (t j).backup.node ≡ other.group
+      unfolding domain
+      in_other = refl
 
-        own_starts : Tells (words primary_starts) (λ r. is_started (x r j).primary)
-        unfolding run_task run_primary
-        own_starts r p = may_start primary own.group _ _ may_primary in_own r p ∙ ap (λ y. is_started y.primary) (sym (run_own r))
+      own_ends : Tells (words primary_ends) (λ r. is_finished (x r j).primary)
+      unfolding run_task run_primary
+      own_ends r p = may_end primary own.group _ _ may_primary in_own r p ∙ ap (λ y. is_finished y.primary) (sym (run_own r))
 
-        may_backup : Tells (words called) (λ r. not (is_finished (x r j).primary) and rule_b job (t j) and fed job t (x r) j (t j).backup)
-        unfolding rule_b
-        may_backup r p =
-            let s = leb ((t j).primary.finish + own.detect) (t j).backup.start in
-            tells_without _ _ _ _ (tells_picked s _ _ (fed_all backup)) own_ends r p
-            ∙ turned_call (fed job t (x r) j (t j).backup) s (is_finished (x r j).primary)
-            ∙ ap (λ (n : Node). not (is_finished (x r j).primary) and leb ((t j).primary.finish + n.detect) (t j).backup.start
-            and fed job t (x r) j (t j).backup) is_own
+      own_starts : Tells (words primary_starts) (λ r. is_started (x r j).primary)
+      unfolding run_task run_primary
+      own_starts r p = may_start primary own.group _ _ may_primary in_own r p ∙ ap (λ y. is_started y.primary) (sym (run_own r))
 
-        run_backup_lem : (r : ℕ) → (x r j).backup
-            ≡ attempt job (loss_at losses r) (not (is_finished (x r j).primary) and rule_b job (t j) and fed job t (x r) j (t j).backup) (t j).backup
-        unfolding run_task run_backup
-        run_backup_lem r =
-            ap (λ y. y.backup) (run_own r)
-            ∙ ap (λ s. attempt job (loss_at losses r) (not (is_finished s) and rule_b job (t j) and fed job t (x r) j (t j).backup) (t j).backup)
-            (sym (ap (λ y. y.primary) (run_own r)))
+      may_backup : Tells (words called) (λ r. not (is_finished (x r j).primary) and rule_b job (t j) and fed job t (x r) j (t j).backup)
+      unfolding rule_b
+      may_backup r p =
+          let s = leb ((t j).primary.finish + own.detect) (t j).backup.start in
+          tells_without _ _ _ _ (tells_picked s _ _ (fed_all backup)) own_ends r p
+          ∙ turned_call (fed job t (x r) j (t j).backup) s (is_finished (x r j).primary)
 
-        other_ends : Tells (words backup_ends) (λ r. is_finished (x r j).backup)
-        other_ends r p = may_end backup other.group _ _ may_backup in_other r p ∙ ap is_finished (sym (run_backup_lem r))
+      run_backup_lem : (r : ℕ) → (x r j).backup
+          ≡ attempt job (loss_at losses r) (not (is_finished (x r j).primary) and rule_b job (t j) and fed job t (x r) j (t j).backup) (t j).backup
+      unfolding run_task run_backup
+      run_backup_lem r =
+          ap (λ y. y.backup) (run_own r)
+          ∙ ap (λ s. attempt job (loss_at losses r) (not (is_finished s) and rule_b job (t j) and fed job t (x r) j (t j).backup) (t j).backup)
+          (sym (ap (λ y. y.primary) (run_own r)))
 
-        other_starts : Tells (words backup_starts) (λ r. is_started (x r j).backup)
-        other_starts r p = may_start backup other.group _ _ may_backup in_other r p ∙ ap is_started (sym (run_backup_lem r))
+      other_ends : Tells (words backup_ends) (λ r. is_finished (x r j).backup)
+      other_ends r p = may_end backup other.group _ _ may_backup in_other r p ∙ ap is_finished (sym (run_backup_lem r))
 
-        own_narrow : Narrow (words primary_starts)
-        own_narrow = narrow_both (words may) _ (narrow_spared losses own.group ((t j).primary.start + 1))
+      other_starts : Tells (words backup_starts) (λ r. is_started (x r j).backup)
+      other_starts r p = may_start backup other.group _ _ may_backup in_other r p ∙ ap is_started (sym (run_backup_lem r))
 
-        other_narrow : Narrow (words backup_starts)
-        other_narrow = narrow_both (words called) _ (narrow_spared losses other.group ((t j).backup.start + 1))
+      own_narrow : Narrow (words primary_starts)
+      own_narrow = narrow_both (words may) _ (narrow_spared losses own.group ((t j).primary.start + 1))
 
-        -- the words that are there, with those of its two copies
-        module _ (P : ℕ → ℕ → Role → Type 0) (list : List ℕ) (long : length list ≡ copy_count) (v v' : ℕ)
-            (first : P v j primary) (second : P v' j backup) where
-          abbrev new : List ℕ
-          new = set (set list (2 * j) v) (2 * j + 1) v'
+      other_narrow : Narrow (words backup_starts)
+      other_narrow = narrow_both (words called) _ (narrow_spared losses other.group ((t j).backup.start + 1))
 
-          fits : 2 * j + 1 < copy_count
-          fits = omega (arith, w.sound.tasks_most)
+      -- the words that are there, with those of its two copies
+      module _ (P : ℕ → ℕ → Role → Type 0) (list : List ℕ) (long : length list ≡ copy_count) (v v' : ℕ)
+          (first : P v j primary) (second : P v' j backup) where
+        abbrev new : List ℕ
+        new = set (set list (2 * j) v) (2 * j + 1) v'
 
-          at_task : (a : Role) → P (get_or new (at j a) 0) j a
-          at_task primary =
-              subst (λ n. P n j primary) (sym (get_or-set_other (set list (2 * j) v) (2 * j + 1) (2 * j) v' 0 (λ e. omega arith)
-              ∙ get_or-set_same list (2 * j) v 0 (omega (arith, fits)))) first
-          at_task backup =
-              subst (λ n. P n j backup) (sym (get_or-set_same (set list (2 * j) v) (2 * j + 1) v' 0 (omega (arith, fits, length-set list (2 * j) v)))) second
+        fits : 2 * j + 1 < copy_count
+        fits = omega (arith, w.sound.tasks_most)
 
-          new_at : ((i : ℕ) (a : Role) → i < j → P (get_or list (at i a) 0) i a) → (i : ℕ) (a : Role) → i < j + 1 → P (get_or new (at i a) 0) i a
-          new_at old i a p =
-              below_suc i j (omega arith)
-              (λ q. subst (λ n. P n i a) (sym (get_or-set_other (set list (2 * j) v) (2 * j + 1) (at i a) v' 0 (off a _ (omega arith) q)
-              ∙ get_or-set_other list (2 * j) (at i a) v 0 (off a _ (omega arith) q))) (old i a q))
-              (λ e. subst (λ i. P (get_or new (at i a) 0) i a) (sym e) (at_task a))
-            where
-              off : (a : Role) (n : ℕ) → 2 * j ≤ n → i < j → at i a ≡ n → ⊥
-              off primary n p q e = omega arith
-              off backup n p q e = omega arith
+        at_task : (a : Role) → P (get_or new (at j a) 0) j a
+        at_task primary =
+            subst (λ n. P n j primary) (sym (get_or-set_other (set list (2 * j) v) (2 * j + 1) (2 * j) v' 0 (λ e. omega arith)
+            ∙ get_or-set_same list (2 * j) v 0 (omega (arith, fits)))) first
+        at_task backup =
+            subst (λ n. P n j backup) (sym (get_or-set_same (set list (2 * j) v) (2 * j + 1) v' 0 (omega (arith, fits, length-set list (2 * j) v)))) second
 
-        pub upto_settled : (y' : Outcomes) → Settled cs.start cs.finish feds losses own other (ready job j) j y y'
-            → Upto job w.plan losses (j + 1) k feds y'
-        upto_settled y' s =
-            let ends = s.ends ∙ ap₂ (λ v v'. set (set y.ended (2 * j) v) (2 * j + 1) v')
-            (is_copies (primary_ends losses own other (ready job j))) (is_copies (backup_ends losses own other (ready job j))) in
-            let starts = s.starts ∙ ap₂ (λ v v'. set (set y.started (2 * j) v) (2 * j + 1) v')
-            (is_copies (primary_starts losses own other (ready job j))) (is_copies (backup_starts losses own other (ready job j))) in
-            let old = u.told in
-            record {
-              within = omega arith;
-              links_within = u.links_within;
-              size = u.size;
-              told =
-                  record {
-                    ended_size = ap length ends ∙ length-set (set y.ended (2 * j) _) (2 * j + 1) _ ∙ length-set y.ended (2 * j) _ ∙ old.ended_size;
-                    started_size = ap length starts ∙ length-set (set y.started (2 * j) _) (2 * j + 1) _ ∙ length-set y.started (2 * j) _ ∙ old.started_size;
-                    ends = subst (λ z. (i : ℕ) (a : Role) → i < j + 1 → Tells (get_or z (at i a) 0) (λ r. is_finished (state_of a (x r i)))) (sym ends)
-                        (new_at (λ v i a. Tells v (λ r. is_finished (state_of a (x r i)))) y.ended old.ended_size _ _ own_ends other_ends old.ends);
-                    starts = subst (λ z. (i : ℕ) (a : Role) → i < j + 1 → Tells (get_or z (at i a) 0) (λ r. is_started (state_of a (x r i))))
-                        (sym starts)
-                        (new_at (λ v i a. Tells v (λ r. is_started (state_of a (x r i)))) y.started old.started_size _ _ own_starts other_starts old.starts);
-                    narrow = subst (λ z. (i : ℕ) (a : Role) → i < j + 1 → Narrow (get_or z (at i a) 0)) (sym starts)
-                        (new_at (λ v i a. Narrow v) y.started old.started_size _ _ own_narrow other_narrow old.narrow);
-                  };
-              inputs = u.inputs;
-            }
+        new_at : ((i : ℕ) (a : Role) → i < j → P (get_or list (at i a) 0) i a) → (i : ℕ) (a : Role) → i < j + 1 → P (get_or new (at i a) 0) i a
+        new_at old i a p =
+            below_suc i j (omega arith)
+            (λ q. subst (λ n. P n i a) (sym (get_or-set_other (set list (2 * j) v) (2 * j + 1) (at i a) v' 0 (off a _ (omega arith) q)
+            ∙ get_or-set_other list (2 * j) (at i a) v 0 (off a _ (omega arith) q))) (old i a q))
+            (λ e. subst (λ i. P (get_or new (at i a) 0) i a) (sym e) (at_task a))
+          where
+            off : (a : Role) (n : ℕ) → 2 * j ≤ n → i < j → at i a ≡ n → ⊥
+            off primary n p q e = omega arith
+            off backup n p q e = omega arith
+
+      pub upto_settled : (y' : Outcomes) → Settled job cs feds losses j y y'
+          → Upto job w.plan losses (j + 1) k feds y'
+      upto_settled y' s =
+          let ends = s.ends ∙ ap₂ (λ v v'. set (set y.ended (2 * j) v) (2 * j + 1) v')
+          (is_copies primary_ends) (is_copies backup_ends) in
+          let starts = s.starts ∙ ap₂ (λ v v'. set (set y.started (2 * j) v) (2 * j + 1) v')
+          (is_copies primary_starts) (is_copies backup_starts) in
+          let old = u.told in
+          record {
+            within = omega arith;
+            links_within = u.links_within;
+            size = u.size;
+            told =
+                record {
+                  ended_size = ap length ends ∙ length-set (set y.ended (2 * j) _) (2 * j + 1) _ ∙ length-set y.ended (2 * j) _ ∙ old.ended_size;
+                  started_size = ap length starts ∙ length-set (set y.started (2 * j) _) (2 * j + 1) _ ∙ length-set y.started (2 * j) _ ∙ old.started_size;
+                  ends = subst (λ z. (i : ℕ) (a : Role) → i < j + 1 → Tells (get_or z (at i a) 0) (λ r. is_finished (state_of a (x r i)))) (sym ends)
+                      (new_at (λ v i a. Tells v (λ r. is_finished (state_of a (x r i)))) y.ended old.ended_size _ _ own_ends other_ends old.ends);
+                  starts = subst (λ z. (i : ℕ) (a : Role) → i < j + 1 → Tells (get_or z (at i a) 0) (λ r. is_started (state_of a (x r i))))
+                      (sym starts)
+                      (new_at (λ v i a. Tells v (λ r. is_started (state_of a (x r i)))) y.started old.started_size _ _ own_starts other_starts old.starts);
+                  narrow = subst (λ z. (i : ℕ) (a : Role) → i < j + 1 → Narrow (get_or z (at i a) 0)) (sym starts)
+                      (new_at (λ v i a. Narrow v) y.started old.started_size _ _ own_narrow other_narrow old.narrow);
+                };
+            inputs = u.inputs;
+          }
 
     pub upto_done : tasks job ≤ j → Told job w.plan losses (tasks job) y
     upto_done p = let d : j ≡ tasks job = omega (arith, u.within) in subst (λ n. Told job w.plan losses n y) d u.told

@@ -5,10 +5,10 @@ use Rattle.reader.specs.declared.job.Job.{Job}
 use Rattle.reader.specs.declared.job.Link.{Link}
 use Rattle.reader.specs.declared.job.Node.{Node}
 use Rattle.reader.specs.declared.plan.Plan.{Plan}
-use Rattle.reader.specs.Limits.{max_tasks, max_start}
+use Rattle.reader.specs.Limits.{max_nodes, max_tasks, max_start}
 use Rattle.reader.specs.Tests.{◌implies◌}
 use Rattle.reader.specs.First.{every}
-use Rattle.reader.specs.Entries.{tasks, links, link}
+use Rattle.reader.specs.Entries.{tasks, links, ready, link, no_node}
 use Rattle.reader.specs.Sound.{Sound, PlanSound}
 use Rattle.rules.specs.declared.Copy.{Copy}
 use Rattle.rules.specs.declared.Loss.{Loss}
@@ -50,46 +50,48 @@ pub record Sendable (leave : List ℕ) (l : Link) : Type 0 where
   pub primary : SumFits (get_or leave (2 * l.from) 0) l.delay
   pub backup : SumFits (get_or leave (2 * l.from + 1) 0) l.delay
 
--- a task whose primary holds the node own from s up to e, and its backup the node other from s' up to e', and that have their inputs in the runs x
--- and y: in which runs each ends, and starts
-module _ (losses : Losses) (own other : Node) (ready s e s' e' x y : ℕ) where
+-- a task whose primary is c and whose backup is d, and that have their inputs in the runs x and y: in which runs each ends, and starts
+abbrev pub node_of : Job → Copy → Node
+node_of job c = get_or job.nodes c.node no_node
+
+module _ (job : Job) (losses : Losses) (ready : ℕ) (c d : Copy) (x y : ℕ) where
   abbrev pub may : ℕ
-  may = cond (leb ready s) x 0
+  may = cond (leb ready c.start) x 0
 
   abbrev pub primary_ends : ℕ
-  primary_ends = bit_and may (spared_in losses own.group e run_count)
+  primary_ends = bit_and may (spared_in losses (node_of job c).group c.finish run_count)
 
   abbrev pub primary_starts : ℕ
-  primary_starts = bit_and may (spared_in losses own.group (s + 1) run_count)
+  primary_starts = bit_and may (spared_in losses (node_of job c).group (c.start + 1) run_count)
 
   abbrev pub called : ℕ
-  called = without_of (cond (leb (e + own.detect) s') y 0) primary_ends
+  called = without_of (cond (leb (c.finish + (node_of job c).detect) d.start) y 0) primary_ends
 
   abbrev pub backup_ends : ℕ
-  backup_ends = bit_and called (spared_in losses other.group e' run_count)
+  backup_ends = bit_and called (spared_in losses (node_of job d).group d.finish run_count)
 
   abbrev pub backup_starts : ℕ
-  backup_starts = bit_and called (spared_in losses other.group (s' + 1) run_count)
+  backup_starts = bit_and called (spared_in losses (node_of job d).group (d.start + 1) run_count)
 
--- its sums fit
-pub record Settleable (start finish : List ℕ) (own : Node) (j : ℕ) : Type 0 where
+-- its nodes are of a rack, and its sums fit
+pub record Settleable (job : Job) (cs : Copies) (j : ℕ) : Type 0 where
   pub low : j < max_tasks
-  pub primary_start : get_or start (2 * j) 0 ≤ max_start
-  pub backup_start : get_or start (2 * j + 1) 0 ≤ max_start
-  pub detected : SumFits (get_or finish (2 * j) 0) own.detect
+  pub primary_node : (entry cs (2 * j)).node < max_nodes
+  pub backup_node : (entry cs (2 * j + 1)).node < max_nodes
+  pub primary_start : (entry cs (2 * j)).start ≤ max_start
+  pub backup_start : (entry cs (2 * j + 1)).start ≤ max_start
+  pub detected : SumFits (entry cs (2 * j)).finish (node_of job (entry cs (2 * j))).detect
 
--- what f says of task j, with these starts, finishes and runs in which its copies have their inputs
-abbrev pub of_task : (ℕ → ℕ → ℕ → ℕ → ℕ → ℕ → ℕ) → List ℕ → List ℕ → List ℕ → ℕ → ℕ
-of_task f start finish fed j =
-    f (get_or start (2 * j) 0) (get_or finish (2 * j) 0) (get_or start (2 * j + 1) 0) (get_or finish (2 * j + 1) 0) (get_or fed (2 * j) 0)
-    (get_or fed (2 * j + 1) 0)
+-- what f says of the copies of task j, and of the runs in which they have their inputs
+abbrev pub of_task : (Copy → Copy → ℕ → ℕ → ℕ) → Copies → List ℕ → ℕ → ℕ
+of_task f cs fed j = f (entry cs (2 * j)) (entry cs (2 * j + 1)) (get_or fed (2 * j) 0) (get_or fed (2 * j + 1) 0)
 
 -- task j is settled
-pub record Settled (start finish fed : List ℕ) (losses : Losses) (own other : Node) (ready j : ℕ) (x x' : Outcomes) : Type 0 where
-  pub ends : x'.ended ≡ set (set x.ended (2 * j) (of_task (primary_ends losses own other ready) start finish fed j)) (2 * j + 1)
-      (of_task (backup_ends losses own other ready) start finish fed j)
-  pub starts : x'.started ≡ set (set x.started (2 * j) (of_task (primary_starts losses own other ready) start finish fed j)) (2 * j + 1)
-      (of_task (backup_starts losses own other ready) start finish fed j)
+pub record Settled (job : Job) (cs : Copies) (fed : List ℕ) (losses : Losses) (j : ℕ) (x x' : Outcomes) : Type 0 where
+  pub ends : x'.ended ≡ set (set x.ended (2 * j) (of_task (primary_ends job losses (ready job j)) cs fed j)) (2 * j + 1)
+      (of_task (backup_ends job losses (ready job j)) cs fed j)
+  pub starts : x'.started ≡ set (set x.started (2 * j) (of_task (primary_starts job losses (ready job j)) cs fed j)) (2 * j + 1)
+      (of_task (backup_starts job losses (ready job j)) cs fed j)
 
 -- the loss of run r; number 16 is no group's
 abbrev pub no_group : ℕ

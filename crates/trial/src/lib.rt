@@ -29,10 +29,7 @@ pub fn trial_plan(job: Job, plan: Plan) -> bool
     requires { Sound job × PlanSound job plan }
     ensures { (result ≡ true) ↔ Trial job plan }
 {
-    let mut node = [0u32; Copies::COUNT];
-    let mut start = [0u32; Copies::COUNT];
-    let mut finish = [0u32; Copies::COUNT];
-    let mut sets = [0u32; Copies::COUNT];
+    let mut copies = Copies::empty();
     let mut leave = [0u32; Copies::COUNT];
     let tasks = job.tasks;
     let nodes = job.nodes;
@@ -42,22 +39,15 @@ pub fn trial_plan(job: Job, plan: Plan) -> bool
         nodes,
         n,
         plan,
-        &mut node,
-        &mut start,
-        &mut finish,
-        &mut sets,
+        &mut copies.node,
+        &mut copies.start,
+        &mut copies.finish,
+        &mut copies.set,
         &mut leave,
     );
-    if !pass(&job, &node, &start, &finish, &leave, n, true) {
-        return false;
-    }
-    if !pass(&job, &node, &start, &finish, &leave, 0, false) {
-        return false;
-    }
-    if n <= RUNS {
-        return true;
-    }
-    pass(&job, &node, &start, &finish, &leave, RUNS, false)
+    pass(&job, &copies, &leave, n, true)
+        && pass(&job, &copies, &leave, 0, false)
+        && (n <= RUNS || pass(&job, &copies, &leave, RUNS, false))
 }
 
 // Tries two files: 0 is yes.

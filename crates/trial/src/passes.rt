@@ -1,10 +1,9 @@
 // A pass over 32 runs: their losses, and whether all of them are good.
-ghost use Rattle.std.specs.Prelude.{true, [], ◌↔◌, ◌≡◌, ◌≤◌};
+ghost use Rattle.std.specs.Prelude.{true, ◌↔◌, ◌≡◌, ◌≤◌};
 ghost use Rattle.reader.specs.Tests.{◌implies◌};
 ghost use Rattle.reader.specs.First.{every};
 ghost use Rattle.reader.specs.Entries.{tasks};
 ghost use Rattle.reader.specs.Limits.{max_tasks};
-ghost use Rattle.copies.specs.Table.{table};
 ghost use Rattle.trial.specs.Runs.{Placed};
 ghost use Rattle.trial.specs.Passes.{done_in, ends_in, Losable, LossesFrom, Passes};
 
@@ -20,14 +19,9 @@ use reader::refusal::Answer;
 const NO_GROUP: u32 = 16;
 
 // The losses of the primaries from that of task `first` on. Where there is none, nothing is lost.
-fn set_losses<'c>(
-    job: &'c Job,
-    node: &'c [u32; Copies::COUNT],
-    finish: &'c [u32; Copies::COUNT],
-    first: usize,
-) -> Losses
-    requires { Losable job.now.nodes node.now finish.now (tasks job.now) × (first ≤ max_tasks) }
-    ensures { LossesFrom job.now.nodes node.now finish.now first (tasks job.now) result }
+fn set_losses<'c>(job: &'c Job, copies: &'c Copies, first: usize) -> Losses
+    requires { Losable job.now.nodes copies.now.node copies.now.finish (tasks job.now) × (first ≤ max_tasks) }
+    ensures { LossesFrom job.now.nodes copies.now.node copies.now.finish first (tasks job.now) result }
 {
     let mut losses = Losses {
         lost: [NO_GROUP; RUNS],
@@ -39,27 +33,27 @@ fn set_losses<'c>(
         if n <= j {
             return losses;
         }
-        let p = node[2 * j] as usize;
+        let p = copies.node[2 * j] as usize;
         let own = job.nodes[p];
         losses.lost[r] = own.group;
-        losses.moment[r] = finish[2 * j] - 1;
+        losses.moment[r] = copies.finish[2 * j] - 1;
     }
     losses
 }
 
 // Whether in every run each task is done by its deadline.
-fn all_done<'c>(job: &'c Job, finish: &'c [u32; Copies::COUNT], outcomes: &'c Outcomes) -> bool
+fn all_done<'c>(job: &'c Job, copies: &'c Copies, outcomes: &'c Outcomes) -> bool
     requires { tasks job.now ≤ max_tasks }
-    ensures { result ≡ every (tasks job.now) (done_in job.now.tasks finish.now outcomes.now.ended) }
+    ensures { result ≡ every (tasks job.now) (done_in job.now.tasks copies.now.finish outcomes.now.ended) }
 {
     let n = job.task_count as usize;
     for j in 0..n {
         let task = job.tasks[j];
         let by = task.deadline;
         let done = either(
-            finish[2 * j] <= by,
+            copies.finish[2 * j] <= by,
             outcomes.ended[2 * j],
-            finish[2 * j + 1] <= by,
+            copies.finish[2 * j + 1] <= by,
             outcomes.ended[2 * j + 1],
         );
         if done != ALL {
@@ -87,28 +81,26 @@ fn all_end(outcomes: &Outcomes, n: usize) -> bool
 // end too.
 pub fn pass<'c>(
     job: &'c Job,
-    node: &'c [u32; Copies::COUNT],
-    start: &'c [u32; Copies::COUNT],
-    finish: &'c [u32; Copies::COUNT],
+    copies: &'c Copies,
     leave: &'c [u32; Copies::COUNT],
     first: usize,
     strict: bool,
 ) -> bool
-    requires { Placed job.now (table node.now start.now finish.now []) leave.now × (first ≤ max_tasks) }
-    ensures { (w : Placed job.now (table node.now start.now finish.now []) leave.now)
+    requires { Placed job.now copies.now leave.now × (first ≤ max_tasks) }
+    ensures { (w : Placed job.now copies.now leave.now)
         → (result ≡ true) ↔ Passes job.now w.plan first strict }
 {
-    let losses = set_losses(job, node, finish, first);
-    let outcomes = run_all(job, node, start, finish, leave, &losses);
+    let losses = set_losses(job, copies, first);
+    let outcomes = run_all(job, copies, leave, &losses);
     let n = job.task_count as usize;
     if strict && !all_end(&outcomes, n) {
         return false;
     }
-    if !all_done(job, finish, &outcomes) {
+    if !all_done(job, copies, &outcomes) {
         return false;
     }
     let started = outcomes.started;
-    let Answer::Done = overlapping(node, start, finish, &started, n) else {
+    let Answer::Done = overlapping(&copies.node, &copies.start, &copies.finish, &started, n) else {
         return false;
     };
     true

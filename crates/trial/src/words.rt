@@ -38,18 +38,19 @@ fn stays(lost: u32, moment: u32, group: u32, by: u32) -> bool
     (lost != group) | (by <= moment)
 }
 
-// The runs in which it is.
-pub fn spared(losses: &Losses, group: u32, by: u32) -> u32
-    ensures { result ≡ spared_in losses.now group by run_count }
-{
-    let mut runs: u32 = 0;
-    for r in 0..RUNS {
-        runs = runs
-            | pick(
-                stays(losses.lost[r], losses.moment[r], group, by),
+impl Losses {
+    // The runs in which it is.
+    pub fn spared(&self, group: u32, by: u32) -> u32
+        ensures { result ≡ spared_in self.now group by run_count }
+    {
+        let mut runs: u32 = 0;
+        for r in 0..RUNS {
+            runs |= pick(
+                stays(self.lost[r], self.moment[r], group, by),
                 bit_of(r as u32),
                 0,
             );
+        }
+        runs
     }
-    runs
 }

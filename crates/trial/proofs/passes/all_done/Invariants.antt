@@ -5,4 +5,4 @@ use Rattle.trial.specs.Passes.{done_in}
 use Rattle.trial.proofs.passes.all_done.Given as goal
 
 abbrev pub invariant-loop-j : goal.invariant-loop-j
-invariant-loop-j l = every l.j (done_in l.job.tasks l.finish l.outcomes.ended) ≡ true
+invariant-loop-j l = every l.j (done_in l.job.tasks l.copies.finish l.outcomes.ended) ≡ true

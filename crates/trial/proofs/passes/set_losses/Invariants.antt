@@ -4,4 +4,4 @@ use Rattle.trial.proofs.PassLaws.{Noting}
 use Rattle.trial.proofs.passes.set_losses.Given as goal
 
 abbrev pub invariant-loop-r : goal.invariant-loop-r
-invariant-loop-r l = Noting l.job.nodes l.node l.finish l.first (tasks l.job) l.r l.losses
+invariant-loop-r l = Noting l.job.nodes l.copies.node l.copies.finish l.first (tasks l.job) l.r l.losses

@@ -1,7 +1,6 @@
 -- `trial::runs::run_all` meets its contract.
-use Rattle.std.proofs.Common.{refl, arith}
-use Rattle.rules.specs.Survival.{primary, backup}
-use Rattle.trial.proofs.PlacedLaws.{settleable, node_low, node_of}
+use Rattle.std.proofs.Common.{refl}
+use Rattle.trial.proofs.PlacedLaws.{settleable}
 use Rattle.trial.proofs.UptoLaws.{upto_start, upto_settled, upto_done}
 use Rattle.trial.proofs.runs.run_all.Goals as goal
 
@@ -11,20 +10,13 @@ loop-j-init c = λ w. upto_start _ _ _ w _ _ refl refl
 pub send_before-k-requires : goal.send_before-k-requires
 send_before-k-requires c = (c.requires, (c.loop-j.invariant c.requires).links_within)
 
-pub bounds-job-p : goal.bounds-job-p
-bounds-job-p c = let w = c.requires in omega (arith, node_low _ _ _ w _ primary c.loop-j-test.true, w.sound.nodes_most)
-
-pub bounds-job-b : goal.bounds-job-b
-bounds-job-b c = let w = c.requires in omega (arith, node_low _ _ _ w _ backup c.loop-j-test.true, w.sound.nodes_most)
-
 pub settle-requires : goal.settle-requires
-settle-requires c = settleable _ _ _ c.requires _ c.loop-j-test.true _ refl
+settle-requires c = settleable _ _ _ c.requires _ c.loop-j-test.true
 
 pub loop-j-preserved : goal.loop-j-preserved
 loop-j-preserved c =
-    let below = c.loop-j-test.true in
-    λ w. upto_settled _ _ _ w _ _ _ _ _ (c.send_before-k.ensures.upto w _ (c.loop-j.invariant w)) below c.send_before-k.ensures.left _ _
-    (node_of _ _ _ w _ primary below) (node_of _ _ _ w _ backup below) _ c.settle.ensures
+    λ w. upto_settled _ _ _ w _ _ _ _ _ (c.send_before-k.ensures.upto w _ (c.loop-j.invariant w)) c.loop-j-test.true
+    c.send_before-k.ensures.left _ c.settle.ensures
 
 pub returns : goal.returns
 returns c = λ w. upto_done _ _ _ w _ _ _ _ _ (c.loop-j.invariant w) c.loop-j-test.false

@@ -5,4 +5,4 @@ use Rattle.trial.proofs.runs.send.Goals as goal
 pub returns : goal.returns
 returns c =
     fed_sent _ _ _ _ _ _ _ _ _ _ _ c.result_at-p.ensures c.result_at-b.ensures
-    c.copy_at.ensures c.fed_by.ensures c.copy_at-2.ensures c.fed_by-2.ensures
+    c.at.ensures c.fed_by.ensures c.at-2.ensures c.fed_by-2.ensures

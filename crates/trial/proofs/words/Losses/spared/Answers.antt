@@ -1,7 +1,7 @@
--- `trial::words::spared` meets its contract.
+-- `trial::words::Losses::spared` meets its contract.
 use Rattle.std.proofs.Common.{cond, ◌∙◌, ap₂}
 use Rattle.trial.proofs.WordLaws.{spared_start, spared_more}
-use Rattle.trial.proofs.words.spared.Goals as goal
+use Rattle.trial.proofs.words.Losses.spared.Goals as goal
 
 pub loop-r-init : goal.loop-r-init
 loop-r-init c = spared_start _ _ _
