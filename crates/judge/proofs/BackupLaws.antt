@@ -4,11 +4,11 @@ use mathlib.Core.Bool.{Bool, true, false}
 use mathlib.Core.List.{List}
 use mathlib.Core.Path.{◌≡◌, ◌∙◌}
 use lib.Bits.{bit_and}
-use lib.ListN.{get_or}
+use lib.Dec.{eqb}
 use borrow.Author.Tests.{eq-eqb, ne_eqb}
-use Rattle.reader.specs.declared.job.Link.{Link}
+use Rattle.reader.specs.declared.job.Job.{Job}
 use Rattle.reader.specs.Tests.{◌and◌, ◌implies◌}
-use Rattle.reader.specs.Entries.{no_link}
+use Rattle.reader.specs.Entries.{link}
 use Rattle.rules.specs.declared.Copy.{Copy}
 use Rattle.copies.specs.declared.arrival.Outgoing.{Outgoing}
 use Rattle.copies.specs.declared.table.Copies.{Copies}
@@ -19,11 +19,11 @@ use Rattle.judge.specs.Backups.{link_feeds}
 
 -- the primary's result is late; the backup's does not matter; it does
 module _ (x y : Bool) (s t : ℕ) where
-  pub fed_late : x ≡ false → false ≡ (x and (meets s t implies y))
+  pub fed_late : x ≡ false → x ≡ (x and (meets s t implies y))
   unfolding ◌and◌
   fed_late h = rw h
 
-  pub fed_apart : x ≡ true → bit_and s t ≡ 0 → true ≡ (x and (meets s t implies y))
+  pub fed_apart : x ≡ true → bit_and s t ≡ 0 → eqb (bit_and s t) 0 ≡ (x and (meets s t implies y))
   unfolding ◌and◌ ◌implies◌ meets
   fed_apart h e = rw (h, eq-eqb (bit_and s t) 0 e)
 
@@ -32,9 +32,9 @@ module _ (x y : Bool) (s t : ℕ) where
   fed_both h e r is = rw (h, ne_eqb (bit_and s t) 0 e) is
 
 -- of the results and the copy at link k's ends
-pub feeds_at : (list : List Link) (cs : Copies) (leave : List ℕ) (k i j : ℕ) → i ≡ (get_or list k no_link).from → j ≡ (get_or list k no_link).to
-    → let result = result_at cs.node cs.finish leave (get_or list k no_link).delay in
+pub feeds_at : (job : Job) (cs : Copies) (leave : List ℕ) (k i j : ℕ) → i ≡ (link job k).from → j ≡ (link job k).to
+    → let result = result_at cs.node cs.finish leave (link job k).delay in
     (p b : Outgoing) (c : Copy) (r : Bool) → p ≡ result (2 * i) → b ≡ result (2 * i + 1) → c ≡ entry cs (2 * j + 1)
-    → r ≡ fed_of p b (set_at cs (2 * i + 1)) c (set_at cs (2 * j + 1)) → r ≡ link_feeds list cs leave k
+    → r ≡ fed_of p b (set_at cs (2 * i + 1)) c (set_at cs (2 * j + 1)) → r ≡ link_feeds job cs leave k
 unfolding link_feeds
-feeds_at list cs leave k i j ei ej p b c r ep eb ec er = er ∙ rw (ep, eb, ec, ei, ej)
+feeds_at job cs leave k i j ei ej p b c r ep eb ec er = er ∙ rw (ep, eb, ec, ei, ej)

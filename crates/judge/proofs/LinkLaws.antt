@@ -12,14 +12,13 @@ use lib.ListN.{get_or, set, length, replicate, length-replicate, length-set}
 use lib.Seq.{get_or-set_same, get_or-set_other}
 use borrow.Author.Tests.{eqb-true, eqb-false, eq-eqb}
 use Rattle.reader.specs.declared.job.Job.{Job}
-use Rattle.reader.specs.declared.job.Link.{Link}
 use Rattle.reader.specs.declared.refusal.Refusal.{Refusal}
 use Rattle.reader.specs.declared.refusal.Refusal.TheVariants.{PrimaryUnfed}
 use Rattle.reader.specs.Refusals.{Answer}
 use Rattle.reader.specs.Tests.{◌and◌, ◌or◌}
 use Rattle.reader.specs.First.{any}
 use Rattle.reader.specs.Limits.{max_tasks, max_links}
-use Rattle.reader.specs.Entries.{links, link, no_link}
+use Rattle.reader.specs.Entries.{links, link}
 use Rattle.reader.specs.Refusals.{answered}
 use Rattle.reader.proofs.TestLaws.{split, or_none}
 use Rattle.reader.proofs.FirstLaws.{any_start, any_more}
@@ -40,7 +39,7 @@ use Rattle.copies.proofs.SetLaws.{has_union, has_none}
 use Rattle.copies.proofs.MemberLaws.{late_has}
 use Rattle.judge.specs.Notes.{nowhere, first_broken, noted_of, seen}
 use Rattle.judge.specs.Parts.{by_links}
-use Rattle.judge.specs.Links.{linked, Timed, WeakTo, sure, SureBut, LinksJudged}
+use Rattle.judge.specs.Links.{Timed, WeakTo, sure, SureBut, LinksJudged}
 use Rattle.judge.proofs.NoteLaws.{note_start, note_more, note_below, note_seen}
 use Rattle.judge.proofs.SetMore.{joins_unless, stays}
 
@@ -106,20 +105,17 @@ walk_start job cs into zeros =
     }
 
 -- the sender's results at link k, which leads from task i
-module _ (list : List Link) (n : ℕ) (cs : Copies) (leave : List ℕ) (timed : Timed list n cs leave) (k : ℕ) (low : k < n)
-    (i : ℕ) (ei : i ≡ (get_or list k no_link).from) where
-  pub primary_fits : (2 * i < copy_count) × SumFits (get_or leave (2 * i) 0) (get_or list k no_link).delay
+module _ (job : Job) (cs : Copies) (leave : List ℕ) (timed : Timed job cs leave) (k : ℕ) (low : k < links job)
+    (i : ℕ) (ei : i ≡ (link job k).from) where
+  pub primary_fits : (2 * i < copy_count) × SumFits (get_or leave (2 * i) 0) (link job k).delay
   primary_fits = (omega (arith, timed.from k low), rw ei (timed.primary_fits k low))
 
-  pub backup_fits : (2 * i + 1 < copy_count) × SumFits (get_or leave (2 * i + 1) 0) (get_or list k no_link).delay
+  pub backup_fits : (2 * i + 1 < copy_count) × SumFits (get_or leave (2 * i + 1) 0) (link job k).delay
   backup_fits = (omega (arith, timed.from k low), rw ei (timed.backup_fits k low))
 
 -- link k, between tasks i and j
-module _ (list : List Link) (n : ℕ) (cs : Copies) (leave : List ℕ) (timed : Timed list n cs leave) (k : ℕ) (low : k < n)
-    (i j : ℕ) (ei : i ≡ (get_or list k no_link).from) (ej : j ≡ (get_or list k no_link).to) where
-  abbrev job : Job
-  job = linked timed.job list n
-
+module _ (job : Job) (cs : Copies) (leave : List ℕ) (timed : Timed job cs leave) (k : ℕ) (low : k < links job)
+    (i j : ℕ) (ei : i ≡ (link job k).from) (ej : j ≡ (link job k).to) where
   abbrev result : ℕ → Outgoing
   result = result_at cs.node cs.finish leave (link job k).delay
 
@@ -135,7 +131,7 @@ module _ (list : List Link) (n : ℕ) (cs : Copies) (leave : List ℕ) (timed : 
       → (p b : Outgoing) (q c : Copy) → p ≡ result (2 * i) → b ≡ result (2 * i + 1) → q ≡ entry cs (2 * j) → c ≡ entry cs (2 * j + 1)
       → (x y z s : Bool) → x ≡ comes p q → y ≡ comes p c → z ≡ comes b c → s ≡ comes b q
       → (u v w bit : ℕ) → u ≡ noted_of primary k x → v ≡ cond y 0 (2 ^ i) → w ≡ cond z 0 (2 ^ i) → bit ≡ cond s 0 (2 ^ i)
-      → Walking job cs (k + 1) (set into j (bit_or (get_or into j 0) bit)) u (bit_or (bit_or unsure v) w)
+      → Walking job cs (k + 1) (set into j (bit_or (get_or into j 0) bit)) u (bit_or unsure (bit_or v w))
   unfolding row_of rule_d waits_for_both strong
   walk_more into primary unsure h p b q c ep eb eq ec x y z s ex ey ez es u v w bit eu ev ew ebit =
       let small : k < nowhere = omega (arith, timed.few) in
@@ -151,7 +147,7 @@ module _ (list : List Link) (n : ℕ) (cs : Copies) (leave : List ℕ) (timed : 
           | yes below ↦ stays y z unsure v w i ev ew _ (h.e m below f)
           | no above ↦
               let here : m ≡ k = omega arith in
-              rw here (subst (λ n. has (bit_or (bit_or unsure v) w) n ≡ true) ei
+              rw here (subst (λ n. has (bit_or unsure (bit_or v w)) n ≡ true) ei
               (joins_unless y z unsure v w i ev ew (both ∙ subst (λ n. sure job (row_of cs) n ≡ false) here f)))
         ];
       }
@@ -165,7 +161,7 @@ module _ (list : List Link) (n : ℕ) (cs : Copies) (leave : List ℕ) (timed : 
 abbrev pub link_refusal : Job → (ℕ → ℕ → Refusal) → ℕ → Refusal
 link_refusal job refusal k = refusal (link job k).from (link job k).to
 
-module _ (job : Job) (cs : Copies) (leave : List ℕ) (timed : Timed job.links (links job) cs leave) (k : ℕ) (into : List ℕ) (primary unsure : ℕ)
+module _ (job : Job) (cs : Copies) (leave : List ℕ) (timed : Timed job cs leave) (k : ℕ) (into : List ℕ) (primary unsure : ℕ)
     (h : Walking job cs k into primary unsure) (end : links job ≤ k) where
   all : Walking job cs (links job) into primary unsure
   all = let d : k ≡ links job = omega (arith, h.within) in subst (λ n. Walking job cs n into primary unsure) d h

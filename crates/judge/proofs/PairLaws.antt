@@ -6,7 +6,6 @@ use mathlib.Core.Option.{none}
 use mathlib.Core.Path.{◌≡◌, refl, sym, ◌∙◌, ap, ap₂}
 use lib.Bits.{and_comm}
 use lib.Dec.{leb, ltb, eqb}
-use lib.ListN.{replicate}
 use borrow.Author.Tests.{eqb-true, eqb-false, eq-eqb, ne_eqb, ltb-true, lt-ltb, le-ltb, leb-true, leb-false, le-leb, lt-leb}
 use native.Mathlib.Omega.{arith}
 use Rattle.reader.specs.declared.refusal.Refusal.TheVariants.{Overlap}
@@ -20,14 +19,13 @@ use Rattle.reader.proofs.TestLaws.{imp_e, imp_i, imp_x, imp_fails, not_e, not_i,
 use Rattle.reader.proofs.FirstLaws.{first_none, some_first, none_unless, some_unless, every_start, every_e, every_x}
 use Rattle.copies.specs.declared.table.Copies.{Copies}
 use Rattle.copies.specs.Sets.{meets}
-use Rattle.copies.specs.Table.{table, node_at, start_at, entry, set_at}
-use Rattle.copies.specs.Layout.{sooner, all_of, all_pairs, spots, Laid}
+use Rattle.copies.specs.Table.{node_at, start_at, entry, set_at}
+use Rattle.copies.specs.Layout.{sooner, all_of, all_pairs, Laid}
 use Rattle.copies.specs.Laying.{Layable}
 use Rattle.copies.specs.Clash.{clashes, hits}
-use Rattle.copies.proofs.ListMore.{replicated}
 use Rattle.copies.proofs.TableLaws.{halves}
 use Rattle.copies.proofs.TimelineLaws.{every_suc, all_map, sooner_starts, pairs_timeline}
-use Rattle.copies.proofs.LayoutLaws.{laid_start, laid_filled, laid_ordered}
+use Rattle.copies.proofs.LayoutLaws.{laid_filled, laid_ordered}
 use Rattle.judge.specs.Faults.{Low}
 use Rattle.judge.specs.Overlaps.{apart, pair_apart, pair_breach, pair_of, no_pair, pair_told, meeting, pair_behind, pair_within, pair_on, AllFilled}
 use Rattle.judge.proofs.SweepLaws.{pair_falls}
@@ -94,53 +92,47 @@ module _ (cs : Copies) where
       within_is x rest _ (and_r _ _ h) ∙ ap (λ t. t and all_pairs (keeps x) rest) (behind_is x a rest noted (and_r _ _ h)) ∙ and_join _ _ _
 
   -- all of the first k entries, laid out
-  module _ (node order count : List ℕ) (k : ℕ) (laid : Laid node cs.start k order count) (x : ℕ) where
+  module _ (order count : List ℕ) (k : ℕ) (laid : Laid cs.node cs.start k order count) (x : ℕ) where
     abbrev kept : ℕ → Bool
-    kept n = every k λ b. eqb (node_at node b) n implies every b λ a. eqb (node_at node a) n implies keeps x b a
+    kept n = every k λ b. eqb (node_at cs.node b) n implies every b λ a. eqb (node_at cs.node a) n implies keeps x b a
 
     least_is : (m : ℕ) → m ≤ max_nodes → leb x (pair_on cs order count m) ≡ (leb x no_pair and every m kept)
     unfolding pair_on
     least_is zero p = sym (ap (λ t. leb x no_pair and t) (every_start kept) ∙ and_yes _)
     least_is (suc m) p =
-        within_is x _ _ (laid_ordered node cs.start order count k laid m (omega arith))
+        within_is x _ _ (laid_ordered cs.node cs.start order count k laid m (omega arith))
         ∙ ap₂ ◌and◌ (least_is m (omega arith)) (ap (all_pairs (keeps x)) (laid.is m (omega arith))
-        ∙ pairs_timeline (start_at cs.start) (node_at node) m (keeps x) (λ a b. same_test _ _ (keeps_turn x a b) (keeps_turn x b a)) k)
+        ∙ pairs_timeline (start_at cs.start) (node_at cs.node) m (keeps x) (λ a b. same_test _ _ (keeps_turn x a b) (keeps_turn x b a)) k)
         ∙ and_join _ _ _ ∙ ap (λ t. leb x no_pair and t) (sym (every_suc m kept))
 
 -- n tasks can be laid out, and then the spots hold entries
 module _ (node start : List ℕ) (n : ℕ) (low : Low node n) where
-  pub all_layable : Layable node start (2 * n) (replicate spots 0) (replicate max_nodes 0)
-  all_layable = record { few = omega (arith, low.few); rack = low.on; empty = laid_start node start _ _ refl refl (replicated 0 max_nodes) }
+  pub all_layable : (order count : List ℕ) → Laid node start 0 order count → Layable node start (2 * n) order count
+  all_layable order count blank = record { few = omega (arith, low.few); rack = low.on; empty = blank }
 
   pub all_filled : (order count : List ℕ) → Laid node start (2 * n) order count → AllFilled order count
   all_filled order count laid m p = laid_filled node start order count (2 * n) laid m p (omega (arith, low.few))
 
 -- the least of their pairs
-module _ (node start finish sets order count : List ℕ) (n : ℕ) (low : Low node n) (laid : Laid node start (2 * n) order count) where
-  abbrev cs : Copies
-  cs = table node start finish sets
-
-  abbrev swept : Copies
-  swept = table [] start finish sets
-
+module _ (cs : Copies) (order count : List ℕ) (n : ℕ) (low : Low cs.node n) (laid : Laid cs.node cs.start (2 * n) order count) where
   abbrev least : ℕ
-  least = pair_on swept order count max_nodes
+  least = pair_on cs order count max_nodes
 
   abbrev strikes : ℕ → ℕ → Bool
   strikes b a = clashes (set_at cs b) (entry cs b) (entry cs a) (set_at cs a)
 
-  means : (x : ℕ) → leb x least ≡ (leb x no_pair and every max_nodes (kept swept node order count (2 * n) laid x))
-  means x = least_is swept node order count (2 * n) laid x max_nodes (omega arith)
+  means : (x : ℕ) → leb x least ≡ (leb x no_pair and every max_nodes (kept cs order count (2 * n) laid x))
+  means x = least_is cs order count (2 * n) laid x max_nodes (omega arith)
 
-  all_kept : (leb least no_pair and every max_nodes (kept swept node order count (2 * n) laid least)) ≡ true
+  all_kept : (leb least no_pair and every max_nodes (kept cs order count (2 * n) laid least)) ≡ true
   all_kept = sym (means least) ∙ le-leb least least (omega arith)
 
   -- entries of two tasks that clash have no lesser number
   strikes_least : (a b : ℕ) → a / 2 < b / 2 → b < 2 * n → strikes b a ≡ true → least ≤ max_tasks * (a / 2) + b / 2
   unfolding clashes keeps hits
   strikes_least a b p q h =
-      let here = every_e (2 * n) _ (every_e max_nodes _ (and_r _ _ all_kept) (node_at node b) (low.on b q)) b q in
-      let there = every_e b _ (imp_e _ _ here (eq-eqb (node_at node b) (node_at node b) refl)) a (omega arith) in
+      let here = every_e (2 * n) _ (every_e max_nodes _ (and_r _ _ all_kept) (node_at cs.node b) (low.on b q)) b q in
+      let there = every_e b _ (imp_e _ _ here (eq-eqb (node_at cs.node b) (node_at cs.node b) refl)) a (omega arith) in
       let least_of = imp_e _ _ (imp_e _ _ there (and_l _ _ h)) (and_i _ _ (and_r _ _ h) (not_i _ (ne_eqb (b / 2) (a / 2) λ e. omega arith))) in
       omega (arith, leb-true least (pair_of b a) least_of, pair_falls b a (omega arith))
 
@@ -153,8 +145,8 @@ module _ (node start finish sets order count : List ℕ) (n : ℕ) (low : Low no
       λ m _ e.
       every_x (2 * n) _ e λ b q e. imp_x _ _ e λ on e. every_x b _ e λ a r e. imp_x _ _ e λ by e. imp_x _ _ e λ both over.
       let ne = eqb-false (b / 2) (a / 2) (not_e _ (and_r _ _ both)) in
-      let same = eqb-true (node_at node a) m by ∙ sym (eqb-true (node_at node b) m on) in
-      let s = and_i _ _ (eq-eqb (node_at node a) (node_at node b) same) (and_l _ _ both) in
+      let same = eqb-true (node_at cs.node a) m by ∙ sym (eqb-true (node_at cs.node b) m on) in
+      let s = and_i _ _ (eq-eqb (node_at cs.node a) (node_at cs.node b) same) (and_l _ _ both) in
       let u = leb-false (least + 1) (pair_of b a) over in
       go a b (omega arith) q s (omega (arith, strikes_least a b (omega arith) q s, pair_falls b a (omega arith)))
 

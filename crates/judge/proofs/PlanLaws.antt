@@ -1,7 +1,7 @@
 -- From the passes to the judge: the table's rows are the plan's, and its answers the judge's.
 use Prim.Native.Nat.{ℕ, zero, suc, ◌+◌, ◌*◌, ◌≤◌, ◌<◌}
 use mathlib.Core.Bool.{true, false}
-use mathlib.Core.List.{List, []}
+use mathlib.Core.List.{List}
 use mathlib.Core.Logic.{◌⊎◌, ⊎_elim}
 use mathlib.Core.Option.{Option, none}
 use mathlib.Core.Path.{◌≡◌, refl, sym, ◌∙◌, ap, ap₂, subst, fun_ext}
@@ -42,7 +42,7 @@ use Rattle.copies.proofs.GatherLaws.{all_gathered}
 use Rattle.copies.proofs.ArrivalLaws.{backup_fed, result_is}
 use Rattle.judge.specs.Parts.{by_tasks, by_links, by_backups, by_faults}
 use Rattle.judge.specs.Tasks.{CopyFits, Copied, TasksJudged}
-use Rattle.judge.specs.Links.{linked, Timed, WeakTo, sure, SureBut, LinksJudged}
+use Rattle.judge.specs.Links.{Timed, WeakTo, sure, SureBut, LinksJudged}
 use Rattle.judge.specs.declared.links.Walked.{Walked}
 use Rattle.judge.specs.Backups.{link_feeds, backup_breach, Unsure}
 use Rattle.judge.specs.Faults.{Receiving, GathersAll, Low, Grouped, loss_breach}
@@ -88,11 +88,10 @@ module _ (job : Job) (plan : Plan) (sound : Sound job) (reads : PlanSound job pl
         (λ j p. subst (Able job) (sym (copied.backup j p ∙ row_backup job plan (tasks job) j p))
         (able j _ _ (reads.backup_node j p) (reads.backup_able j p) ((placeable job plan sound reads).backup j p)))
 
-    unfoldable pub timed : (leave : List ℕ) → Leaving job (2 * tasks job) cs leave
-        → (sets : List ℕ) → Timed job.links (links job) (table cs.node cs.start cs.finish sets) leave
+    pub timed : (leave : List ℕ) → Leaving job (2 * tasks job) cs leave
+        → (sets : List ℕ) → Timed job (table cs.node cs.start cs.finish sets) leave
     timed leave leaving sets =
         record {
-          job = job;
           few = sound.links_most;
           from = λ k p. omega (arith, from_low job sound k p, sound.tasks_most);
           to = λ k p. omega (arith, sound.into k p, sound.tasks_most);
@@ -150,20 +149,20 @@ module _ (job : Job) (plan : Plan) (sound : Sound job) (reads : PlanSound job pl
 
       -- E at link k, by the table
       feeds_is : (k : ℕ) → k < links job
-          → link_feeds job.links final leave k ≡ rule_e job (link job k) (row_of final (link job k).from) (row_of final (link job k).to)
+          → link_feeds job final leave k ≡ rule_e job (link job k) (row_of final (link job k).from) (row_of final (link job k).to)
       unfolding link_feeds row_of
       feeds_is k p =
           let low = from_low job sound k p in
           rw (left (2 * (link job k).from) (omega arith), left (2 * (link job k).from + 1) (omega arith))
           (backup_fed job final (tasks job) held _ (row_of final (link job k).to) refl (link job k) _ low)
 
-      backups_are_judged : backup_breach job.links (links job) final leave ≡ by_backups job t
+      backups_are_judged : backup_breach job final leave ≡ by_backups job t
       unfolding backup_breach by_backups first_link
       backups_are_judged = first_same (links job) _ _ (λ k p. rw (feeds_is k p)) ∙ backups_same job sound (row_of final) t rows_are
 
       -- a link that is sure keeps it; others come from the senders in the set
       module _ (u : ℕ) (is : SureBut job (row_of cs) (links job) u) where
-        others : (k : ℕ) → k < links job → has u (link job k).from ≡ false → link_feeds job.links final leave k ≡ true
+        others : (k : ℕ) → k < links job → has u (link job k).from ≡ false → link_feeds job final leave k ≡ true
         unfolding waits_for_both row_of
         others k p out =
             feeds_is k p
@@ -213,18 +212,9 @@ module _ (job : Job) (plan : Plan) (sound : Sound job) (reads : PlanSound job pl
         faults = λ i q p. ap (λ s. has s q) (it.own_set i p) ∙ has_one _ q ∙ sym (ap (λ f. f i q) (gathered_none job plan));
       }
 
-  -- the copies without their sets
-  abbrev bare : Copies
-  bare = table cs.node cs.start cs.finish []
-
-  module _ (into : List ℕ) (w : Walked)
-      (walk : (it : Timed job.links (links job) bare leave) → LinksJudged (linked it.job job.links (links job)) bare into w) where
-    walked : LinksJudged job bare into w
-    unfolding timed
-    walked = walk (timed job plan sound reads cs placed.tabled.copied leave placed.leaving [])
-
+  module _ (into : List ℕ) (w : Walked) (walked : LinksJudged job cs into w) where
     links_answer : w.answer ≡ answered (by_links job (rows job plan))
-    links_answer = walked.answer ∙ ap answered (links_are job plan sound reads bare placed.tabled.copied)
+    links_answer = walked.answer ∙ ap answered (links_are job plan sound reads cs placed.tabled.copied)
 
     pub links_refused : v ≡ Ok tt → (r : Refusal) → w.answer ≡ Err r → w.answer ≡ judge job plan
     links_refused done r e = parts _ (stop _ _ _ r links_answer e ∙ after _ _ (done_none _ _ placed.answer done))
@@ -232,28 +222,28 @@ module _ (job : Job) (plan : Plan) (sound : Sound job) (reads : PlanSound job pl
     -- the sets once all tasks are gathered, and the table with them
     module _ (sets : List ℕ) (gathers : GathersAll into (tasks job) cs.set sets) where
       pub filled : SetsTo job plan (tasks job) sets
-      filled = gathers job plan (receiving job plan sound reads bare placed.tabled.copied into walked.weak) own_sets
+      filled = gathers job plan (receiving job plan sound reads cs placed.tabled.copied into walked.weak) own_sets
 
       abbrev full : Copies
       full = table cs.node cs.start cs.finish sets
 
-      pub pass_ready : Unsure job.links (links job) w.unsure full leave
+      pub pass_ready : Unsure job w.unsure full leave
       pass_ready =
           record {
             timed = timed job plan sound reads cs placed.tabled.copied leave placed.leaving sets;
-            others = others job plan sound reads bare placed.tabled.copied sets filled leave placed.leaving.is
+            others = others job plan sound reads cs placed.tabled.copied sets filled leave placed.leaving.is
                 w.unsure walked.unsure;
           }
 
       -- what the pass answers
       abbrev Passed : Answer → Type 0
-      Passed u = u ≡ answered (backup_breach job.links (links job) full leave)
+      Passed u = u ≡ answered (backup_breach job full leave)
 
       backups_answer : (u : Answer) → Passed u → u ≡ answered (by_backups job (rows job plan))
       backups_answer u e =
           e
           ∙ ap answered
-          (backups_are_judged job plan sound reads bare placed.tabled.copied sets filled leave placed.leaving.is)
+          (backups_are_judged job plan sound reads cs placed.tabled.copied sets filled leave placed.leaving.is)
 
       -- every link is sure, or the pass found nothing
       abbrev Fed : Type 0
@@ -262,7 +252,7 @@ module _ (job : Job) (plan : Plan) (sound : Sound job) (reads : PlanSound job pl
       backups_kept : Fed → by_backups job (rows job plan) ≡ none
       backups_kept =
           ⊎_elim
-          (all_sure job plan sound reads bare placed.tabled.copied sets filled leave placed.leaving.is
+          (all_sure job plan sound reads cs placed.tabled.copied sets filled leave placed.leaving.is
           w.unsure walked.unsure)
           (λ x. done_none _ _ (backups_answer x.0 x.1) x.2)
 
@@ -278,5 +268,5 @@ module _ (job : Job) (plan : Plan) (sound : Sound job) (reads : PlanSound job pl
         faults_answered fed u e =
             parts u (before _ u (e
             ∙ ap answered
-            (faults_are_judged job plan sound reads bare placed.tabled.copied sets filled leave placed.leaving.is)
+            (faults_are_judged job plan sound reads cs placed.tabled.copied sets filled leave placed.leaving.is)
             ∙ after _ _ (backups_kept fed)))

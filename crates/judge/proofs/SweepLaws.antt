@@ -1,11 +1,11 @@
 -- Laws of the sweep's code: the number of a pair, when it is noted, and the loops over spots and nodes.
-use Prim.Native.Nat.{ℕ, ◌+◌, ◌-◌, ◌*◌, ◌/◌, ◌≤◌, ◌<◌, min, max}
+use Prim.Native.Nat.{ℕ, ◌+◌, ◌-◌, ◌*◌, ◌/◌, ◌≤◌, ◌<◌, min}
 use mathlib.Core.Bool.{Bool, true, false, not, cond, ◌&&◌}
 use mathlib.Core.List.{List, ◌∷◌}
 use mathlib.Core.Path.{◌≡◌, refl, sym, ◌∙◌, ap, ap₂, subst}
 use lib.Dec.{ltb, eqb}
 use lib.ListN.{get_or}
-use borrow.Author.Tests.{ltb-true, ltb-false, le-leb, lt-leb}
+use borrow.Author.Tests.{le-leb, lt-leb}
 use native.Mathlib.Numerals.{add-one}
 use native.Mathlib.Omega.{arith}
 use Rattle.reader.specs.Limits.{max_nodes, max_tasks}
@@ -19,10 +19,6 @@ use Rattle.copies.specs.Laying.{Filled}
 use Rattle.copies.proofs.SpotLaws.{Swept, swept_done, swept_stop, swept_more}
 use Rattle.judge.specs.Overlaps.{pair_of, no_pair, meeting, pair_behind, pair_within, pair_on}
 
-pub pair_number : (a b x y : ℕ) → x ≡ min (a / 2) (b / 2) → y ≡ max (a / 2) (b / 2) → max_tasks * x + y ≡ pair_of a b
-unfolding pair_of
-pair_number a b x y p q = omega arith
-
 pub pair_falls : (a b : ℕ) → b / 2 ≤ a / 2 → max_tasks * (b / 2) + a / 2 ≡ pair_of a b
 unfolding pair_of
 pair_falls a b p = omega arith
@@ -34,17 +30,17 @@ both_is true t = refl
 both_is false t = refl
 
 -- a clash s of two tasks, d, with this pair
-pub note_new : (s d : Bool) (noted pair p : ℕ) → pair ≡ p → ((s && d) && ltb pair noted) ≡ true → pair ≡ cond (s and d) (min noted p) noted
+pub note_new : (s d : Bool) (noted pair p r : ℕ) → (s && d) ≡ true → r ≡ min noted pair → pair ≡ p → r ≡ cond (s and d) (min noted p) noted
 unfolding ◌and◌
-note_new true true noted pair p e h = let l = ltb-true pair noted h in omega arith
-note_new true false noted pair p e h = clash false h refl
-note_new false d noted pair p e h = clash false h refl
+note_new true true noted pair p r h er ep = cc
+note_new true false noted pair p r h er ep = clash false h refl
+note_new false d noted pair p r h er ep = clash false h refl
 
-pub note_old : (s d : Bool) (noted pair p : ℕ) → pair ≡ p → ((s && d) && ltb pair noted) ≡ false → noted ≡ cond (s and d) (min noted p) noted
+pub note_old : (s d : Bool) (noted x : ℕ) → (s && d) ≡ false → noted ≡ cond (s and d) x noted
 unfolding ◌and◌
-note_old true true noted pair p e h = let l = ltb-false pair noted h in omega arith
-note_old true false noted pair p e h = refl
-note_old false d noted pair p e h = refl
+note_old true true noted x h = clash true refl h
+note_old true false noted x h = refl
+note_old false d noted x h = refl
 
 -- an entry of the spots
 pub filled_low : (order : List ℕ) (from to : ℕ) → Filled order from to → (q e : ℕ) → from ≤ q → q < to

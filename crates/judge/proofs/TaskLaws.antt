@@ -37,7 +37,7 @@ pub copy_fits : (job : Job) → Sound job → (j n s : ℕ) → j < tasks job �
 copy_fits job sound j n s p q b = record { on = omega (arith, sound.nodes_most); ends = omega (arith, sound.run_most j n p q) }
 
 -- a sound job and a plan of it have what the pass rests on
-pub placeable : (job : Job) (plan : Plan) → Sound job → PlanSound job plan → Placeable job.tasks job.nodes (tasks job) plan
+pub placeable : (job : Job) (plan : Plan) → Sound job → PlanSound job plan → Placeable job plan
 placeable job plan sound reads =
     record {
       few = sound.tasks_most;
@@ -49,18 +49,18 @@ placeable job plan sound reads =
       backup_sends = λ j p. sound.send_most _ (reads.backup_node j p);
     }
 
-pub detect_fits : (job : Job) (plan : Plan) → Placeable job.tasks job.nodes (tasks job) plan → (j : ℕ) → j < tasks job
+pub detect_fits : (job : Job) (plan : Plan) → Placeable job plan → (j : ℕ) → j < tasks job
     → (p : Copy) → p ≡ copy_on (task job j) (place plan j).primary_node (place plan j).primary_start
     → p.finish + detect job p.node < 4_294_967_296
 detect_fits job plan h j low p is = rw is (omega (arith, (h.primary j low).ends, h.detects j low))
 
 -- the group of the primary's node is one
-pub group_fits : (job : Job) (plan : Plan) → Placeable job.tasks job.nodes (tasks job) plan → (j : ℕ) → j < tasks job
+pub group_fits : (job : Job) (plan : Plan) → Placeable job plan → (j : ℕ) → j < tasks job
     → (p : Copy) → p ≡ copy_on (task job j) (place plan j).primary_node (place plan j).primary_start → group job p.node ≤ max_group
 group_fits job plan h j low p is = rw is (h.groups j low)
 
 -- a delay can be added to when the results of both copies leave
-pub leaves_soon : (job : Job) (plan : Plan) → Placeable job.tasks job.nodes (tasks job) plan → (j : ℕ) → j < tasks job
+pub leaves_soon : (job : Job) (plan : Plan) → Placeable job plan → (j : ℕ) → j < tasks job
     → (p b : Copy) → p ≡ copy_on (task job j) (place plan j).primary_node (place plan j).primary_start
     → b ≡ copy_on (task job j) (place plan j).backup_node (place plan j).backup_start
     → (leave_of job p ≤ max_start + max_time + max_send) × (leave_of job b ≤ max_start + max_time + max_send)
@@ -122,7 +122,7 @@ module _ (job : Job) (plan : Plan) where
       }
 
   -- one task more, with its copies p and b
-  pub placing_more : Placeable job.tasks job.nodes (tasks job) plan → (j : ℕ) (cs : Copies) (leave : List ℕ) (same soon early late : ℕ)
+  pub placing_more : Placeable job plan → (j : ℕ) (cs : Copies) (leave : List ℕ) (same soon early late : ℕ)
       → Placing job plan j cs leave same soon early late → j < tasks job
       → (p b : Copy)
       → p ≡ copy_on (task job j) (place plan j).primary_node (place plan j).primary_start

@@ -4,7 +4,7 @@ use Rattle.reader.specs.declared.job.Job.{Job}
 use Rattle.reader.specs.declared.job.Link.{Link}
 use Rattle.reader.specs.First.{any}
 use Rattle.reader.specs.Limits.{max_tasks, max_links}
-use Rattle.reader.specs.Entries.{nodes, tasks, links, link, no_link}
+use Rattle.reader.specs.Entries.{nodes, tasks, links, link}
 use Rattle.reader.specs.Refusals.{answered}
 use Rattle.rules.specs.Rules.{Row}
 use Rattle.rules.specs.Waits.{waits_for_both}
@@ -29,18 +29,17 @@ linked job ls n =
       links = ls;
     }
 
--- what the pass over the first n links of some job rests on: each leads from task to task, its delay can be added to when the sender's results
--- leave, and these are then the job's
-pub record Timed (list : List Link) (n : ℕ) (cs : Copies) (leave : List ℕ) : Type 0 where
-  pub job : Job
-  pub few : n ≤ max_links
-  pub from : (k : ℕ) → k < n → (get_or list k no_link).from < max_tasks
-  pub to : (k : ℕ) → k < n → (get_or list k no_link).to < max_tasks
-  pub primary_fits : (k : ℕ) → k < n → SumFits (get_or leave (2 * (get_or list k no_link).from) 0) (get_or list k no_link).delay
-  pub backup_fits : (k : ℕ) → k < n → SumFits (get_or leave (2 * (get_or list k no_link).from + 1) 0) (get_or list k no_link).delay
-  pub primary : (k : ℕ) → k < n → let l = get_or list k no_link in
+-- what the pass over a job's links rests on: each leads from task to task, its delay can be added to when the sender's results leave, and these are
+-- then the job's
+pub record Timed (job : Job) (cs : Copies) (leave : List ℕ) : Type 0 where
+  pub few : links job ≤ max_links
+  pub from : (k : ℕ) → k < links job → (link job k).from < max_tasks
+  pub to : (k : ℕ) → k < links job → (link job k).to < max_tasks
+  pub primary_fits : (k : ℕ) → k < links job → SumFits (get_or leave (2 * (link job k).from) 0) (link job k).delay
+  pub backup_fits : (k : ℕ) → k < links job → SumFits (get_or leave (2 * (link job k).from + 1) 0) (link job k).delay
+  pub primary : (k : ℕ) → k < links job → let l = link job k in
       result_at cs.node cs.finish leave l.delay (2 * l.from) ≡ result_of job l (entry cs (2 * l.from))
-  pub backup : (k : ℕ) → k < n → let l = get_or list k no_link in
+  pub backup : (k : ℕ) → k < links job → let l = link job k in
       result_at cs.node cs.finish leave l.delay (2 * l.from + 1) ≡ result_of job l (entry cs (2 * l.from + 1))
 
 -- the members of set j are the tasks from which one of the first k links leads to j and is weak

@@ -1,12 +1,11 @@
 -- What the pass over the tasks gives: the plan's copies, and the answer of A, the ready time, B and C.
 use Rattle.std.specs.Prelude.{ℕ, ◌+◌, ◌*◌, ◌^◌, ◌≤◌, ◌<◌, List, ◌≡◌, get_or}
 use Rattle.reader.specs.declared.job.Job.{Job}
-use Rattle.reader.specs.declared.job.Node.{Node}
 use Rattle.reader.specs.declared.job.Task.{Task}
 use Rattle.reader.specs.declared.plan.Plan.{Plan}
 use Rattle.reader.specs.Refusals.{Answer}
 use Rattle.reader.specs.Limits.{max_nodes, max_detect, max_send, max_group, max_tasks, max_start, max_time}
-use Rattle.reader.specs.Entries.{nodes, tasks, links, no_node, no_task, place}
+use Rattle.reader.specs.Entries.{tasks, detect, send, group, task, place}
 use Rattle.reader.specs.Refusals.{answered}
 use Rattle.rules.specs.declared.Copy.{Copy}
 use Rattle.rules.specs.Copies.{domain}
@@ -25,29 +24,16 @@ pub record CopyFits (task : Task) (node start : ℕ) : Type 0 where
 abbrev pub copy_on : Task → ℕ → ℕ → Copy
 copy_on task n s = record { node = n; start = s; finish = s + get_or task.run n 0 }
 
--- a job with these nodes, and with the first n of these tasks
-abbrev pub tasked : Job → List Task → List Node → ℕ → Job
-tasked job list rack n =
-    record {
-      version = job.version;
-      node_count = nodes job;
-      nodes = rack;
-      task_count = n;
-      tasks = list;
-      link_count = links job;
-      links = job.links;
-    }
-
--- what the pass over the first n tasks rests on: their copies fit, and the detect time and the group of each primary's node and the send times of
--- both nodes do
-pub record Placeable (list : List Task) (rack : List Node) (n : ℕ) (plan : Plan) : Type 0 where
-  pub few : n ≤ max_tasks
-  pub primary : (j : ℕ) → j < n → CopyFits (get_or list j no_task) (place plan j).primary_node (place plan j).primary_start
-  pub backup : (j : ℕ) → j < n → CopyFits (get_or list j no_task) (place plan j).backup_node (place plan j).backup_start
-  pub detects : (j : ℕ) → j < n → (get_or rack (place plan j).primary_node no_node).detect ≤ max_detect
-  pub groups : (j : ℕ) → j < n → (get_or rack (place plan j).primary_node no_node).group ≤ max_group
-  pub primary_sends : (j : ℕ) → j < n → (get_or rack (place plan j).primary_node no_node).send ≤ max_send
-  pub backup_sends : (j : ℕ) → j < n → (get_or rack (place plan j).backup_node no_node).send ≤ max_send
+-- what the pass over a job's tasks rests on: their copies fit, and the detect time and the group of each primary's node and the send times of both
+-- nodes do
+pub record Placeable (job : Job) (plan : Plan) : Type 0 where
+  pub few : tasks job ≤ max_tasks
+  pub primary : (j : ℕ) → j < tasks job → CopyFits (task job j) (place plan j).primary_node (place plan j).primary_start
+  pub backup : (j : ℕ) → j < tasks job → CopyFits (task job j) (place plan j).backup_node (place plan j).backup_start
+  pub detects : (j : ℕ) → j < tasks job → detect job (place plan j).primary_node ≤ max_detect
+  pub groups : (j : ℕ) → j < tasks job → group job (place plan j).primary_node ≤ max_group
+  pub primary_sends : (j : ℕ) → j < tasks job → send job (place plan j).primary_node ≤ max_send
+  pub backup_sends : (j : ℕ) → j < tasks job → send job (place plan j).backup_node ≤ max_send
 
 -- the entries of a table are the plan's copies of the first n tasks
 pub record Copied (job : Job) (plan : Plan) (n : ℕ) (at : ℕ → Copy) : Type 0 where

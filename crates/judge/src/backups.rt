@@ -2,14 +2,11 @@
 ghost use Rattle.std.specs.Prelude.{◌≡◌};
 ghost use Rattle.reader.specs.Refusals.{answered};
 ghost use Rattle.copies.specs.Arrival.{fed_of};
-ghost use Rattle.copies.specs.Table.{table};
 ghost use Rattle.judge.specs.Backups.{backup_breach, Unsure};
 
-use crate::links::index;
-use copies::arrival::{Outgoing, in_time, result_at};
-use copies::sets::bit_of_task;
-use copies::table::{Copies, copy_at};
-use reader::job::{Job, Link};
+use copies::arrival::{Outgoing, in_time};
+use copies::table::Copies;
+use reader::job::Job;
 use reader::refusal::{Answer, Refusal};
 use rules::Copy;
 
@@ -17,44 +14,26 @@ use rules::Copy;
 fn fed(p: Outgoing, b: Outgoing, s: u32, c: Copy, t: u32) -> bool
     ensures { result ≡ fed_of p b s c t }
 {
-    if !in_time(p, c) {
-        return false;
-    }
-    if s & t == 0 {
-        return true;
-    }
-    in_time(b, c)
+    in_time(p, c) && (s & t == 0 || in_time(b, c))
 }
 
 // The first link that breaks E: only links from the senders in `unsure` can.
-pub fn backups_fed<'c>(
-    links: [Link; Job::MAX_LINKS],
-    n: usize,
-    unsure: u64,
-    node: &'c [u32; Copies::COUNT],
-    start: &'c [u32; Copies::COUNT],
-    finish: &'c [u32; Copies::COUNT],
-    leave: &'c [u32; Copies::COUNT],
-    sets: &'c [u32; Copies::COUNT],
-) -> Answer
-    requires { Unsure links n unsure (table node.now start.now finish.now sets.now) leave.now }
-    ensures { result ≡ answered (backup_breach links n
-        (table node.now start.now finish.now sets.now) leave.now) }
+pub fn backups_fed(job: &Job, unsure: u64, copies: &Copies, leave: &[u32; Copies::COUNT]) -> Answer
+    requires { Unsure job.now unsure copies.now leave.now }
+    ensures { result ≡ answered (backup_breach job.now copies.now leave.now) }
 {
-    let mut k: usize = 0;
-    while k < n {
-        let l = links[k];
-        let i = index(l.from);
-        if unsure & bit_of_task(i) != 0 {
-            let j = index(l.to);
-            let p = result_at(node, finish, leave, l.delay, 2 * i);
-            let b = result_at(node, finish, leave, l.delay, 2 * i + 1);
-            let c = copy_at(node, start, finish, 2 * j + 1);
-            if !fed(p, b, sets[2 * i + 1], c, sets[2 * j + 1]) {
+    for k in 0..job.link_count as usize {
+        let l = &job.links[k];
+        let i = l.from as usize;
+        if (unsure >> i) % 2 == 1 {
+            let j = l.to as usize;
+            let p = copies.result_at(leave, l.delay, 2 * i);
+            let b = copies.result_at(leave, l.delay, 2 * i + 1);
+            let c = copies.at(2 * j + 1);
+            if !fed(p, b, copies.set[2 * i + 1], c, copies.set[2 * j + 1]) {
                 return Answer::Refused(Refusal::BackupUnfed(i, j));
             }
         }
-        k += 1;
     }
     Answer::Done
 }

@@ -1,5 +1,6 @@
 // Fault sets, task by task in the order of the receiving task, and rule F.
 ghost use Rattle.std.specs.Prelude.{◌≡◌, ◌≤◌};
+ghost use Rattle.reader.specs.Entries.{tasks};
 ghost use Rattle.reader.specs.Limits.{max_tasks};
 ghost use Rattle.reader.specs.Refusals.{answered};
 ghost use Rattle.judge.specs.Faults.{Low, Grouped, GathersAll, loss_breach};
@@ -7,7 +8,7 @@ ghost use Rattle.judge.specs.Faults.{Low, Grouped, GathersAll, loss_breach};
 use copies::gather::gather_task;
 use copies::sets::holds;
 use copies::table::Copies;
-use reader::job::{Job, Node};
+use reader::job::Job;
 use reader::refusal::{Answer, Refusal};
 
 // The fault sets of the first n tasks, from the state in which each is its own primary's group: `into` has for each task those from which weak
@@ -16,34 +17,24 @@ pub fn fault_sets(into: &[u64; Job::MAX_TASKS], n: usize, sets: &mut [u32; Copie
     requires { n ≤ max_tasks }
     ensures { GathersAll into.now n sets.old sets.new }
 {
-    let mut j: usize = 0;
-    while j < n {
+    for j in 0..n {
         let k = 2 * j + 1;
         let own = sets[k];
         sets[k] = gather_task(sets, own, into[j]);
-        j += 1;
     }
 }
 
 // F. The group of the backup's node is not in the fault set.
-pub fn common_loss<'c>(
-    nodes: [Node; Job::MAX_NODES],
-    node: &'c [u32; Copies::COUNT],
-    sets: &'c [u32; Copies::COUNT],
-    n: usize,
-) -> Answer
-    requires { Low node.now n × Grouped nodes node.now n }
-    ensures { result ≡ answered (loss_breach nodes node.now sets.now n) }
+pub fn common_loss(job: &Job, copies: &Copies) -> Answer
+    requires { Low copies.now.node (tasks job.now) × Grouped job.now.nodes copies.now.node (tasks job.now) }
+    ensures { result ≡ answered (loss_breach job.now.nodes copies.now.node copies.now.set (tasks job.now)) }
 {
-    let mut j: usize = 0;
-    while j < n {
+    for j in 0..job.task_count as usize {
         let k = 2 * j + 1;
-        let i = node[k] as usize;
-        let own = nodes[i];
-        if holds(sets[k], own.group) {
+        let own = &job.nodes[copies.node[k] as usize];
+        if holds(copies.set[k], own.group) {
             return Answer::Refused(Refusal::CommonLoss(j));
         }
-        j += 1;
     }
     Answer::Done
 }

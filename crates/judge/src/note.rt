@@ -8,14 +8,9 @@ use reader::job::Job;
 pub const NONE: usize = Job::MAX_LINKS;
 
 // After one place more.
+#[tactic(auto, unfolding(crate::specs::Notes::noted_of))]
 pub fn noted(first: usize, at: usize, kept: bool) -> usize
     ensures { result ≡ noted_of first at kept }
 {
-    if kept {
-        return first;
-    }
-    if at < first {
-        return at;
-    }
-    first
+    if kept { first } else { first.min(at) }
 }

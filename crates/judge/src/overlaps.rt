@@ -1,17 +1,17 @@
 // Rule G: the first pair of tasks of which copies clash, by a sweep over the copies of each node in order of time.
-ghost use Rattle.std.specs.Prelude.{cond, not, [], ◌≡◌, ◌+◌, ◌-◌, ◌/◌, ◌<◌, min, max, ltb, eqb, get_or};
+ghost use Rattle.std.specs.Prelude.{cond, not, ◌≡◌, ◌+◌, ◌-◌, ◌/◌, ◌<◌, min, ltb, eqb, get_or};
 ghost use Rattle.reader.specs.Tests.{◌and◌};
 ghost use Rattle.reader.specs.First.{first};
 ghost use Rattle.reader.specs.Refusals.{answered};
 ghost use Rattle.reader.specs.Limits.{max_nodes};
 ghost use Rattle.copies.specs.Sets.{meets};
-ghost use Rattle.copies.specs.Table.{copy_count, table};
+ghost use Rattle.copies.specs.Table.{copy_count};
 ghost use Rattle.copies.specs.Layout.{spots_from};
 ghost use Rattle.copies.specs.Laying.{Filled};
 ghost use Rattle.judge.specs.Faults.{Low};
 ghost use Rattle.judge.specs.Overlaps.{pair_of, pair_breach, pair_behind, pair_within, pair_on, AllFilled};
 
-use copies::layout::{entry_at, lay_all};
+use copies::layout::Layout;
 use copies::table::Copies;
 use reader::job::Job;
 use reader::refusal::{Answer, Refusal};
@@ -19,26 +19,15 @@ use reader::refusal::{Answer, Refusal};
 // The number of no pair: above that of each.
 const NO_PAIR: usize = Job::MAX_TASKS * Job::MAX_TASKS;
 
-fn lesser(i: usize, j: usize) -> usize
-    ensures { result ≡ min i j }
-{
-    if i < j { i } else { j }
-}
-
-fn greater(i: usize, j: usize) -> usize
-    ensures { result ≡ max i j }
-{
-    if i < j { j } else { i }
-}
-
 // The tasks of two entries as one number, which rises with the lower task, then with the higher.
+#[tactic(auto, unfolding(crate::specs::Overlaps::pair_of))]
 fn pair_of(a: usize, b: usize) -> usize
     requires { (a < copy_count) × (b < copy_count) }
     ensures { result ≡ pair_of a b }
 {
     let i = a / 2;
     let j = b / 2;
-    Job::MAX_TASKS * lesser(i, j) + greater(i, j)
+    Job::MAX_TASKS * i.min(j) + i.max(j)
 }
 
 // Whether entries clash of which the second starts before the first one's finish: their sets meet, and the first starts before the second's finish.
@@ -54,105 +43,73 @@ fn note_pair(noted: usize, clash: bool, a: usize, b: usize) -> usize
     ensures { result ≡ cond (clash and not (eqb (a / 2) (b / 2))) (min noted (pair_of a b)) noted }
 {
     let pair = pair_of(a, b);
-    if clash & (a / 2 != b / 2) & (pair < noted) {
-        return pair;
+    if clash & (a / 2 != b / 2) {
+        noted.min(pair)
+    } else {
+        noted
     }
-    noted
 }
 
 // The least of a pair and those of the entry in spot p with each behind it, before spot `to`. One that starts behind its finish does not clash, and
 // nor does any after that.
-fn pair_behind<'c>(
-    start: &'c [u32; Copies::COUNT],
-    finish: &'c [u32; Copies::COUNT],
-    sets: &'c [u32; Copies::COUNT],
-    order: &'c [u8; Copies::SPOTS],
-    p: usize,
-    to: usize,
-    least: usize,
-) -> usize
-    requires { (p < to) × Filled order.now p to }
-    ensures { result ≡ pair_behind (table [] start.now finish.now sets.now)
-        (get_or order.now p 0) (spots_from order.now (p + 1) (to - (p + 1))) least }
+fn pair_behind(copies: &Copies, layout: &Layout, p: usize, to: usize, least: usize) -> usize
+    requires { (p < to) × Filled layout.now.order p to }
+    ensures { result ≡ pair_behind copies.now (get_or layout.now.order p 0)
+        (spots_from layout.now.order (p + 1) (to - (p + 1))) least }
 {
-    let k = entry_at(order, p);
+    let k = layout.entry_at(p);
     let mut noted = least;
-    let mut q = p + 1;
-    while q < to {
-        let e = entry_at(order, q);
-        let at = start[e];
-        let end = finish[k];
+    for q in p + 1..to {
+        let e = layout.entry_at(q);
+        let at = copies.start[e];
+        let end = copies.finish[k];
         if end <= at {
             return noted;
         }
-        let clash = meet(start[k], sets[k], finish[e], sets[e]);
+        let clash = meet(
+            copies.start[k],
+            copies.set[k],
+            copies.finish[e],
+            copies.set[e],
+        );
         noted = note_pair(noted, clash, k, e);
-        q += 1;
     }
     noted
 }
 
 // The same of all entries of a node, which stand in the spots from `from` up to `to`.
-fn pair_within<'c>(
-    start: &'c [u32; Copies::COUNT],
-    finish: &'c [u32; Copies::COUNT],
-    sets: &'c [u32; Copies::COUNT],
-    order: &'c [u8; Copies::SPOTS],
-    from: usize,
-    to: usize,
-    least: usize,
-) -> usize
-    requires { Filled order.now from to }
-    ensures { result ≡ pair_within (table [] start.now finish.now sets.now)
-        (spots_from order.now from (to - from)) least }
+fn pair_within(copies: &Copies, layout: &Layout, from: usize, to: usize, least: usize) -> usize
+    requires { Filled layout.now.order from to }
+    ensures { result ≡ pair_within copies.now (spots_from layout.now.order from (to - from)) least }
 {
     let mut noted = least;
-    let mut p = from;
-    while p < to {
-        noted = pair_behind(start, finish, sets, order, p, to, noted);
-        p += 1;
+    for p in from..to {
+        noted = pair_behind(copies, layout, p, to, noted);
     }
     noted
 }
 
 // And of all nodes.
-fn least_pair<'c>(
-    start: &'c [u32; Copies::COUNT],
-    finish: &'c [u32; Copies::COUNT],
-    sets: &'c [u32; Copies::COUNT],
-    order: &'c [u8; Copies::SPOTS],
-    count: &'c [usize; Job::MAX_NODES],
-) -> usize
-    requires { AllFilled order.now count.now }
-    ensures { result ≡ pair_on (table [] start.now finish.now sets.now)
-        order.now count.now max_nodes }
+fn least_pair(copies: &Copies, layout: &Layout) -> usize
+    requires { AllFilled layout.now.order layout.now.count }
+    ensures { result ≡ pair_on copies.now layout.now.order layout.now.count max_nodes }
 {
     let mut noted = NO_PAIR;
-    let mut m: usize = 0;
-    while m < Job::MAX_NODES {
+    for m in 0..Job::MAX_NODES {
         let base = m * Copies::COUNT;
-        let to = base + count[m];
-        noted = pair_within(start, finish, sets, order, base, to, noted);
-        m += 1;
+        noted = pair_within(copies, layout, base, base + layout.count[m], noted);
     }
     noted
 }
 
 // G.
-pub fn overlapping<'c>(
-    node: &'c [u32; Copies::COUNT],
-    start: &'c [u32; Copies::COUNT],
-    finish: &'c [u32; Copies::COUNT],
-    sets: &'c [u32; Copies::COUNT],
-    n: usize,
-) -> Answer
-    requires { Low node.now n }
-    ensures { result ≡ answered (first n (pair_breach (table node.now start.now finish.now sets.now) n)) }
+pub fn overlapping(copies: &Copies, n: usize) -> Answer
+    requires { Low copies.now.node n }
+    ensures { result ≡ answered (first n (pair_breach copies.now n)) }
 {
-    let mut order = [0u8; Copies::SPOTS];
-    let mut count = [0usize; Job::MAX_NODES];
-    lay_all(node, start, &mut order, &mut count, 2 * n);
-    let pair = least_pair(start, finish, sets, &order, &count);
+    let mut layout = Layout::empty();
+    layout.lay_all(copies, 2 * n);
+    let pair = least_pair(copies, &layout);
     if pair == NO_PAIR {
         return Answer::Done;
     }

@@ -16,29 +16,11 @@ pub fn plan_sets(job: Job, plan: Plan) -> [u32; Copies::COUNT]
     requires { Sound job × PlanSound job plan }
     ensures { (j : ℕ) → j < tasks_of job → get_or result (2 * j + 1) 0 ≡ fault_number job plan j }
 {
-    let mut node = [0u32; Copies::COUNT];
-    let mut start = [0u32; Copies::COUNT];
-    let mut finish = [0u32; Copies::COUNT];
-    let mut sets = [0u32; Copies::COUNT];
-    let mut leave = [0u32; Copies::COUNT];
-    let mut into = [0u64; Job::MAX_TASKS];
-    let tasks = job.tasks;
-    let nodes = job.nodes;
-    let n = job.task_count as usize;
-    place_copies(
-        tasks,
-        nodes,
-        n,
-        plan,
-        &mut node,
-        &mut start,
-        &mut finish,
-        &mut sets,
-        &mut leave,
-    );
-    let links = job.links;
-    let m = job.link_count as usize;
-    walk_links(links, m, &node, &start, &finish, &leave, &mut into);
-    fault_sets(&into, n, &mut sets);
-    sets
+    let mut copies = Copies::empty();
+    let mut leave = [0; Copies::COUNT];
+    place_copies(&job, &plan, &mut copies, &mut leave);
+    let mut into = [0; Job::MAX_TASKS];
+    walk_links(&job, &copies, &leave, &mut into);
+    fault_sets(&into, job.task_count as usize, &mut copies.set);
+    copies.set
 }

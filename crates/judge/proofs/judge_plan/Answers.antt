@@ -1,52 +1,38 @@
 -- `judge::judge_plan` meets its contract.
 use mathlib.Core.Logic.{inl, inr}
-use mathlib.Core.Path.{refl}
-use Rattle.judge.proofs.TaskLaws.{placeable}
-use Rattle.judge.proofs.PlanLaws.{timed, low, grouped, pass_ready, tasks_refused, links_refused, backups_refused, faults_answered}
-use borrow.Author.Rules.{rules}
+use Rattle.judge.proofs.PlanLaws.{low, grouped, pass_ready, tasks_refused, links_refused, backups_refused, faults_answered}
 use Rattle.judge.proofs.judge_plan.Goals as goal
 use Rattle.judge.proofs.judge_plan.Goals.{then-unsure-ne0+in-Done-by_backups, else-unsure-ne0}
 
-pub place_copies-by_tasks-requires : goal.place_copies-by_tasks-requires
-place_copies-by_tasks-requires c = (placeable _ _ c.requires.0 c.requires.1, search rules, refl)
-
 pub returns-in_default : goal.returns-in_default
 returns-in_default c =
-    tasks_refused _ _ c.requires.0 c.requires.1 _ _ _ (c.place_copies-by_tasks.ensures c.args.job) _ c.in_default.is
-
-pub walk_links-walked-requires : goal.walk_links-walked-requires
-walk_links-walked-requires c =
-    let placed = c.place_copies-by_tasks.ensures c.args.job in
-    (timed _ _ c.requires.0 c.requires.1 _ placed.tabled.copied _ placed.leaving _, refl)
+    tasks_refused _ _ c.requires.0 c.requires.1 _ _ _ c.place_copies-by_tasks.ensures _ c.in_default.is
 
 pub returns-in_default-by_links : goal.returns-in_default-by_links
 returns-in_default-by_links c =
-    links_refused _ _ c.requires.0 c.requires.1 _ _ _ (c.place_copies-by_tasks.ensures c.args.job) _ _
+    links_refused _ _ c.requires.0 c.requires.1 _ _ _ c.place_copies-by_tasks.ensures _ _
     c.walk_links-walked.ensures c.in-Done.is _ c.in_default-by_links.is
-
-pub fault_sets-requires : goal.fault_sets-requires
-fault_sets-requires c = c.requires.0.tasks_most
 
 pub backups_fed-by_backups-requires : goal.backups_fed-by_backups-requires
 backups_fed-by_backups-requires c =
-    pass_ready _ _ c.requires.0 c.requires.1 _ _ _ (c.place_copies-by_tasks.ensures c.args.job) _ _
+    pass_ready _ _ c.requires.0 c.requires.1 _ _ _ c.place_copies-by_tasks.ensures _ _
     c.walk_links-walked.ensures _ c.fault_sets.ensures
 
 pub returns-in_default-by_backups : goal.returns-in_default-by_backups
 returns-in_default-by_backups c =
-    backups_refused _ _ c.requires.0 c.requires.1 _ _ _ (c.place_copies-by_tasks.ensures c.args.job) _ _
+    backups_refused _ _ c.requires.0 c.requires.1 _ _ _ c.place_copies-by_tasks.ensures _ _
     c.walk_links-walked.ensures _ c.fault_sets.ensures
     c.in-Done.is c.in-Done-by_links.is _ c.backups_fed-by_backups.ensures _
     c.in_default-by_backups.is
 
 pub judge_faults-requires : goal.judge_faults-requires
 judge_faults-requires c =
-    let placed = c.place_copies-by_tasks.ensures c.args.job in
+    let placed = c.place_copies-by_tasks.ensures in
     (low _ _ c.requires.0 c.requires.1 _ _ _ placed, grouped _ _ c.requires.0 c.requires.1 _ _ _ placed)
 
 pub returns : goal.returns
 returns c =
-    faults_answered _ _ c.requires.0 c.requires.1 _ _ _ (c.place_copies-by_tasks.ensures c.args.job) _ _
+    faults_answered _ _ c.requires.0 c.requires.1 _ _ _ c.place_copies-by_tasks.ensures _ _
     c.walk_links-walked.ensures _ c.fault_sets.ensures
     c.in-Done.is c.in-Done-by_links.is
     (elim c.if-unsure-ne0.branch [

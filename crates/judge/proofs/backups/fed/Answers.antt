@@ -3,13 +3,12 @@ use mathlib.Core.Path.{sym, ◌∙◌}
 use Rattle.judge.proofs.BackupLaws.{fed_late, fed_apart, fed_both}
 use Rattle.judge.proofs.backups.fed.Goals as goal
 
-pub returns-then-not-in_time : goal.returns-then-not-in_time
-returns-then-not-in_time c = fed_late _ _ _ _ (sym c.in_time.ensures ∙ c.if-not-in_time.true)
-
 pub returns-then-s-t-eq0 : goal.returns-then-s-t-eq0
-returns-then-s-t-eq0 c = fed_apart _ _ _ _ (sym c.in_time.ensures ∙ c.if-not-in_time.false) c.if-s-t-eq0.true
+returns-then-s-t-eq0 c = fed_apart _ _ _ _ (sym c.in_time.ensures ∙ c.if-in_time.true) c.if-s-t-eq0.true
 
-pub returns : goal.returns
-returns c =
-    fed_both _ _ _ _ (sym c.in_time.ensures ∙ c.if-not-in_time.false) c.if-s-t-eq0.false _
-    c.in_time-2.ensures
+pub returns-else-s-t-eq0 : goal.returns-else-s-t-eq0
+returns-else-s-t-eq0 c =
+    fed_both _ _ _ _ (sym c.in_time.ensures ∙ c.if-in_time.true) c.if-s-t-eq0.false _ c.in_time-else-s-t-eq0.ensures
+
+pub returns-else-in_time : goal.returns-else-in_time
+returns-else-in_time c = c.in_time.ensures ∙ fed_late _ _ _ _ (sym c.in_time.ensures ∙ c.if-in_time.false)

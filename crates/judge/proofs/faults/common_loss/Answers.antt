@@ -11,10 +11,10 @@ loop-j-init c = clear_start _ _
 
 pub returns-then-holds : goal.returns-then-holds
 unfolding loss_breach
-returns-then-holds c = broken _ _ _ _ c.loop-j.invariant c.loop-j-test.true (ap not (sym c.holds.ensures ∙ c.if-holds.true))
+returns-then-holds c = broken _ _ _ _ c.loop-j.invariant (omega arith) (ap not (sym c.holds.ensures ∙ c.if-holds.true))
 
 pub loop-j-preserved : goal.loop-j-preserved
-loop-j-preserved c = kept _ _ _ _ c.loop-j.invariant c.loop-j-test.true (ap not (sym c.holds.ensures ∙ c.if-holds.false))
+loop-j-preserved c = kept _ _ _ _ c.loop-j.invariant (omega arith) (ap not (sym c.holds.ensures ∙ c.if-holds.false))
 
 pub returns : goal.returns
 unfolding loss_breach

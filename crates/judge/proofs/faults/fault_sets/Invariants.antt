@@ -1,10 +1,6 @@
--- What the loop of `judge::faults::fault_sets` keeps, and what falls.
-use Prim.Native.Nat.{◌-◌}
+-- What the loop of `judge::faults::fault_sets` keeps.
 use Rattle.judge.proofs.GatherLaws.{Filling}
 use Rattle.judge.proofs.faults.fault_sets.Given as goal
 
 abbrev pub invariant-loop-j : goal.invariant-loop-j
 invariant-loop-j l = Filling l.into l.n l.initial.sets l.j l.sets
-
-abbrev pub decreases-loop-j : goal.decreases-loop-j
-decreases-loop-j l = l.n - l.j
