@@ -3,7 +3,7 @@ use Prim.Native.Nat.{ℕ, zero, suc, ◌+◌, ◌*◌, ◌≤◌, ◌<◌}
 use mathlib.Core.Bool.{true, false}
 use mathlib.Core.List.{List}
 use mathlib.Core.Logic.{◌⊎◌, ⊎_elim}
-use mathlib.Core.Option.{Option, none}
+use mathlib.Core.Option.{Option, none, some}
 use mathlib.Core.Path.{◌≡◌, refl, sym, ◌∙◌, ap, ap₂, subst, fun_ext}
 use native.Mathlib.Nat.{not-suc-le-zero}
 use native.Mathlib.Omega.{arith}
@@ -12,14 +12,15 @@ use borrow.Author.Tests.{eq-eqb}
 use Rattle.reader.specs.declared.job.Job.{Job}
 use Rattle.reader.specs.declared.plan.Plan.{Plan}
 use Rattle.reader.specs.declared.refusal.Refusal.{Refusal}
-use Rattle.reader.specs.Refusals.{Answer}
-use Rattle.std.specs.Prelude.{Ok, Err}
+use Rattle.std.specs.Prelude.{Result, Ok, Err, IsErrAnd}
 use Rattle.reader.specs.First.{◌or_else◌}
 use Rattle.reader.specs.Limits.{max_start, max_time}
 use Rattle.reader.specs.Entries.{nodes, tasks, links, task, link, run}
-use Rattle.reader.specs.Refusals.{answered}
+use Rattle.reader.specs.Refusals.{Answer, answered, answer_of}
 use Rattle.reader.specs.Sound.{Sound, PlanSound}
 use Rattle.reader.proofs.TestLaws.{split, clash}
+use Rattle.reader.proofs.RefusalLaws.{answered_done, answered_refused}
+use Rattle.reader.proofs.Chain.{pass, stop, handed}
 use Rattle.reader.proofs.FirstLaws.{first_same, first_none, none_unless, any_same}
 use Rattle.rules.specs.declared.Copy.{Copy}
 use Rattle.rules.specs.Copies.{copy, in_time, domain, domains}
@@ -43,11 +44,9 @@ use Rattle.copies.proofs.ArrivalLaws.{backup_fed, result_is}
 use Rattle.judge.specs.Parts.{by_tasks, by_links, by_backups, by_faults}
 use Rattle.judge.specs.Tasks.{CopyFits, Copied, TasksJudged}
 use Rattle.judge.specs.Links.{Timed, WeakTo, sure, SureBut, LinksJudged}
-use Rattle.judge.specs.declared.links.Walked.{Walked}
 use Rattle.judge.specs.Backups.{link_feeds, backup_breach, Unsure}
 use Rattle.judge.specs.Faults.{Receiving, GathersAll, Low, Grouped, loss_breach}
 use Rattle.judge.specs.Overlaps.{fault_breach}
-use Rattle.judge.proofs.ScanLaws.{done_none, after, stop}
 use Rattle.judge.proofs.PartLaws.{breach_parts, links_same, backups_same, faults_same}
 use Rattle.judge.proofs.TaskLaws.{placeable}
 use Rattle.judge.proofs.LinkLaws.{is_strong}
@@ -184,14 +183,18 @@ module _ (job : Job) (plan : Plan) (sound : Sound job) (reads : PlanSound job pl
 -- the answer of each part where the parts before it found nothing
 module _ (job : Job) (plan : Plan) (sound : Sound job) (reads : PlanSound job plan)
     (cs : Copies) (leave : List ℕ) (v : Answer) (placed : TasksJudged job plan cs leave v) where
-  parts : (u : Answer)
-      → u ≡ answered (by_tasks job (rows job plan) or_else by_links job (rows job plan)
-      or_else by_backups job (rows job plan) or_else by_faults job (rows job plan)) → u ≡ judge job plan
+  -- the first refusal of the parts is the judge's, handed on by `?`
+  ends : {r : Refusal} → (by_tasks job (rows job plan) or_else by_links job (rows job plan)
+      or_else by_backups job (rows job plan) or_else by_faults job (rows job plan)) ≡ some r
+      → (x : Answer) → IsErrAnd x (λ e. e ≡ r) → x ≡ judge job plan
   unfolding judge
-  parts u e = e ∙ ap answered (breach_parts job (rows job plan))
+  ends q x h = handed tt x h (sym (breach_parts job (rows job plan)) ∙ q)
 
-  pub tasks_refused : (r : Refusal) → v ≡ Err r → v ≡ judge job plan
-  tasks_refused r e = parts _ (stop _ _ _ r placed.answer e)
+  pub tasks_refused : {r : Refusal} → v ≡ Err r → (x : Answer) → IsErrAnd x (λ e. e ≡ r) → x ≡ judge job plan
+  tasks_refused q = ends (stop _ ((answered_refused _ _).0 (sym placed.answer ∙ q)))
+
+  no_task : v ≡ Ok tt → by_tasks job (rows job plan) ≡ none
+  no_task q = (answered_done _).0 (sym placed.answer ∙ q)
 
   pub low : Low cs.node (tasks job)
   low =
@@ -212,12 +215,12 @@ module _ (job : Job) (plan : Plan) (sound : Sound job) (reads : PlanSound job pl
         faults = λ i q p. ap (λ s. has s q) (it.own_set i p) ∙ has_one _ q ∙ sym (ap (λ f. f i q) (gathered_none job plan));
       }
 
-  module _ (into : List ℕ) (w : Walked) (walked : LinksJudged job cs into w) where
-    links_answer : w.answer ≡ answered (by_links job (rows job plan))
+  module _ (into : List ℕ) (w : Result ℕ Refusal) (walked : LinksJudged job cs into w) where
+    links_answer : answer_of w ≡ answered (by_links job (rows job plan))
     links_answer = walked.answer ∙ ap answered (links_are job plan sound reads cs placed.tabled.copied)
 
-    pub links_refused : v ≡ Ok tt → (r : Refusal) → w.answer ≡ Err r → w.answer ≡ judge job plan
-    links_refused done r e = parts _ (stop _ _ _ r links_answer e ∙ after _ _ (done_none _ _ placed.answer done))
+    pub links_refused : v ≡ Ok tt → {r : Refusal} → w ≡ Err r → (x : Answer) → IsErrAnd x (λ e. e ≡ r) → x ≡ judge job plan
+    links_refused done q = ends (pass _ (no_task done) ∙ stop _ ((answered_refused _ _).0 (sym links_answer ∙ ap answer_of q)))
 
     -- the sets once all tasks are gathered, and the table with them
     module _ (sets : List ℕ) (gathers : GathersAll into (tasks job) cs.set sets) where
@@ -227,46 +230,46 @@ module _ (job : Job) (plan : Plan) (sound : Sound job) (reads : PlanSound job pl
       abbrev full : Copies
       full = table cs.node cs.start cs.finish sets
 
-      pub pass_ready : Unsure job w.unsure full leave
-      pass_ready =
-          record {
-            timed = timed job plan sound reads cs placed.tabled.copied leave placed.leaving sets;
-            others = others job plan sound reads cs placed.tabled.copied sets filled leave placed.leaving.is
-                w.unsure walked.unsure;
-          }
+      module _ (unsure : ℕ) (is : w ≡ Ok unsure) where
+        pub pass_ready : Unsure job unsure full leave
+        pass_ready =
+            record {
+              timed = timed job plan sound reads cs placed.tabled.copied leave placed.leaving sets;
+              others = others job plan sound reads cs placed.tabled.copied sets filled leave placed.leaving.is
+                  unsure (walked.unsure unsure is);
+            }
 
-      -- what the pass answers
-      abbrev Passed : Answer → Type 0
-      Passed u = u ≡ answered (backup_breach job full leave)
+        -- what the pass answers
+        abbrev Passed : Answer → Type 0
+        Passed u = u ≡ answered (backup_breach job full leave)
 
-      backups_answer : (u : Answer) → Passed u → u ≡ answered (by_backups job (rows job plan))
-      backups_answer u e =
-          e
-          ∙ ap answered
-          (backups_are_judged job plan sound reads cs placed.tabled.copied sets filled leave placed.leaving.is)
-
-      -- every link is sure, or the pass found nothing
-      abbrev Fed : Type 0
-      Fed = (w.unsure ≡ 0) ⊎ ((u : Answer) × Passed u × (u ≡ Ok tt))
-
-      backups_kept : Fed → by_backups job (rows job plan) ≡ none
-      backups_kept =
-          ⊎_elim
-          (all_sure job plan sound reads cs placed.tabled.copied sets filled leave placed.leaving.is
-          w.unsure walked.unsure)
-          (λ x. done_none _ _ (backups_answer x.0 x.1) x.2)
-
-      module _ (done : v ≡ Ok tt) (walk_done : w.answer ≡ Ok tt) where
-        before : (o : Option Refusal) (u : Answer) → u ≡ answered o
-            → u ≡ answered (by_tasks job (rows job plan) or_else by_links job (rows job plan) or_else o)
-        before o u e = e ∙ after _ _ (done_none _ _ links_answer walk_done) ∙ after _ _ (done_none _ _ placed.answer done)
-
-        pub backups_refused : (u : Answer) → Passed u → (r : Refusal) → u ≡ Err r → u ≡ judge job plan
-        backups_refused u e r is = parts u (before _ u (stop _ _ _ r (backups_answer u e) is))
-
-        pub faults_answered : Fed → (u : Answer) → u ≡ answered (fault_breach full job.nodes (tasks job)) → u ≡ judge job plan
-        faults_answered fed u e =
-            parts u (before _ u (e
+        backups_answer : (u : Answer) → Passed u → u ≡ answered (by_backups job (rows job plan))
+        backups_answer u e =
+            e
             ∙ ap answered
-            (faults_are_judged job plan sound reads cs placed.tabled.copied sets filled leave placed.leaving.is)
-            ∙ after _ _ (backups_kept fed)))
+            (backups_are_judged job plan sound reads cs placed.tabled.copied sets filled leave placed.leaving.is)
+
+        -- every link is sure, or the pass found nothing
+        abbrev Fed : Type 0
+        Fed = (unsure ≡ 0) ⊎ ((u : Answer) × Passed u × (u ≡ Ok tt))
+
+        backups_kept : Fed → by_backups job (rows job plan) ≡ none
+        backups_kept =
+            ⊎_elim
+            (all_sure job plan sound reads cs placed.tabled.copied sets filled leave placed.leaving.is
+            unsure (walked.unsure unsure is))
+            (λ x. (answered_done _).0 (sym (backups_answer x.0 x.1) ∙ x.2))
+
+        module _ (done : v ≡ Ok tt) where
+          before : (o : Option Refusal) → (by_tasks job (rows job plan) or_else by_links job (rows job plan) or_else o) ≡ o
+          before o = pass _ (no_task done) ∙ pass _ ((answered_done _).0 (sym links_answer ∙ ap answer_of is))
+
+          pub backups_refused : (u : Answer) → Passed u → {r : Refusal} → u ≡ Err r → (x : Answer) → IsErrAnd x (λ e. e ≡ r) → x ≡ judge job plan
+          backups_refused u e q = ends (before _ ∙ stop _ ((answered_refused _ _).0 (sym (backups_answer u e) ∙ q)))
+
+          pub faults_answered : Fed → (u : Answer) → u ≡ answered (fault_breach full job.nodes (tasks job)) → u ≡ judge job plan
+          unfolding judge
+          faults_answered fed u e =
+              e ∙ ap answered
+              (faults_are_judged job plan sound reads cs placed.tabled.copied sets filled leave placed.leaving.is
+              ∙ sym (pass _ (backups_kept fed)) ∙ sym (before _) ∙ breach_parts job (rows job plan))

@@ -1,18 +1,15 @@
--- Laws of a scan for the first refusal, and of one part of the judge after another.
+-- Laws of a scan for the first refusal.
 use Prim.Native.Nat.{ℕ, ◌+◌, ◌≤◌, ◌<◌}
 use mathlib.Core.Bool.{Bool, true, false}
 use mathlib.Core.Option.{Option, none, some}
-use mathlib.Core.Path.{◌≡◌, refl, sym, ◌∙◌, ap, subst}
+use mathlib.Core.Path.{◌≡◌, refl, sym, ap, subst}
 use native.Mathlib.Omega.{arith}
 use Rattle.reader.specs.declared.refusal.Refusal.{Refusal}
-use Rattle.reader.specs.Refusals.{Answer}
 use Rattle.std.specs.Prelude.{Ok, Err}
-use Rattle.reader.specs.First.{◌or_else◌, first, unless}
+use Rattle.reader.specs.First.{first, unless}
 use Rattle.reader.specs.Refusals.{answered}
-use Rattle.reader.proofs.TestLaws.{never}
 use Rattle.reader.proofs.FirstLaws.{none_unless, first_start, first_more, first_found}
 use Rattle.reader.proofs.FirstLaws.{some_unless}
-use Rattle.reader.proofs.RefusalLaws.{answered_done}
 
 -- f has no answer below j
 pub record Clear (n : ℕ) (f : ℕ → Option Refusal) (j : ℕ) : Type 0 where
@@ -30,14 +27,6 @@ module _ (n : ℕ) (f : ℕ → Option Refusal) where
     pub clear_hit : (r : Refusal) → j < n → f j ≡ some r → Err r ≡ answered (first n f)
     clear_hit r p e = ap answered (sym (first_found f n j r p s.none_yet e))
 
-    -- an answer at j that is a refusal
-    pub clear_stop : (v : Answer) (r : Refusal) → j < n → v ≡ answered (f j) → v ≡ Err r → v ≡ answered (first n f)
-    clear_stop v r p e refused = go (f j) refl
-      where
-        go : (o : Option Refusal) → f j ≡ o → v ≡ answered (first n f)
-        go none h = let done : v ≡ (Ok tt) = e ∙ ap answered h in never (cc)
-        go (some x) h = e ∙ ap answered h ∙ clear_hit x p h
-
     pub clear_done : n ≤ j → (Ok tt) ≡ answered (first n f)
     clear_done p = let d : j ≡ n = omega arith in subst (λ m. (Ok tt) ≡ answered (first m f)) d (ap answered (sym s.none_yet))
 
@@ -48,16 +37,3 @@ module _ (n : ℕ) (rule : ℕ → Bool) (refusal : ℕ → Refusal) (j : ℕ) (
 
   pub broken : rule j ≡ false → Err (refusal j) ≡ answered (first n (λ j. unless (rule j) (refusal j)))
   broken e = clear_hit n _ j s (refusal j) p (some_unless (rule j) (refusal j) (refusal j) e refl)
-
--- one part after another
-pub done_none : (a : Option Refusal) (v : Answer) → v ≡ answered a → v ≡ Ok tt → a ≡ none
-done_none a v e h = (answered_done a).0 (sym e ∙ h)
-
-pub after : (a b : Option Refusal) → a ≡ none → answered b ≡ answered (a or_else b)
-unfolding ◌or_else◌
-after a b e = rw e
-
-pub stop : (a b : Option Refusal) (v : Answer) (r : Refusal) → v ≡ answered a → v ≡ Err r → v ≡ answered (a or_else b)
-unfolding ◌or_else◌
-stop none b v r e h = never (cc)
-stop (some x) b v r e h = e

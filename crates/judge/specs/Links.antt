@@ -1,11 +1,12 @@
 -- What the pass over the links gives: the weak links, the answer of D, and what it leaves of E.
-use Rattle.std.specs.Prelude.{ℕ, ◌+◌, ◌*◌, ◌≤◌, ◌<◌, Bool, true, false, List, ◌≡◌, get_or}
+use Rattle.std.specs.Prelude.{ℕ, ◌+◌, ◌*◌, ◌≤◌, ◌<◌, Bool, true, false, List, ◌≡◌, get_or, Result, Ok}
 use Rattle.reader.specs.declared.job.Job.{Job}
 use Rattle.reader.specs.declared.job.Link.{Link}
+use Rattle.reader.specs.declared.refusal.Refusal.{Refusal}
 use Rattle.reader.specs.First.{any}
 use Rattle.reader.specs.Limits.{max_tasks, max_links}
 use Rattle.reader.specs.Entries.{nodes, tasks, links, link}
-use Rattle.reader.specs.Refusals.{answered}
+use Rattle.reader.specs.Refusals.{answered, answer_of}
 use Rattle.rules.specs.Rules.{Row}
 use Rattle.rules.specs.Waits.{waits_for_both}
 use Rattle.copies.specs.declared.table.Copies.{Copies}
@@ -13,7 +14,6 @@ use Rattle.copies.specs.Sets.{has}
 use Rattle.copies.specs.Arrival.{result_of, result_at, SumFits}
 use Rattle.copies.specs.Table.{entry, row_of}
 use Rattle.copies.specs.Gathered.{weak_link}
-use Rattle.judge.specs.declared.links.Walked.{Walked}
 use Rattle.judge.specs.Parts.{by_links}
 
 -- a job with the first n of these links
@@ -55,7 +55,7 @@ abbrev pub SureBut : Job → (ℕ → Row) → ℕ → ℕ → Type 0
 SureBut job t k unsure = (m : ℕ) → m < k → sure job t m ≡ false → has unsure (link job m).from ≡ true
 
 -- the weak links of all, the answer of D, and the senders of links that are not sure
-pub record LinksJudged (job : Job) (cs : Copies) (into : List ℕ) (r : Walked) : Type 0 where
+pub record LinksJudged (job : Job) (cs : Copies) (into : List ℕ) (r : Result ℕ Refusal) : Type 0 where
   pub weak : WeakTo job (row_of cs) (links job) into
-  pub answer : r.answer ≡ answered (by_links job (row_of cs))
-  pub unsure : SureBut job (row_of cs) (links job) r.unsure
+  pub answer : answer_of r ≡ answered (by_links job (row_of cs))
+  pub unsure : (u : ℕ) → r ≡ Ok u → SureBut job (row_of cs) (links job) u

@@ -7,7 +7,7 @@ ghost use Rattle.judge.specs.Backups.{backup_breach, Unsure};
 use copies::arrival::{Outgoing, in_time};
 use copies::table::Copies;
 use reader::job::Job;
-use reader::refusal::{Answer, Refusal};
+use reader::refusal::Refusal;
 use rules::Copy;
 
 // Whether the backup c, of set t, has the result p in time, and where the sets meet b, which is of set s.
@@ -18,7 +18,12 @@ fn fed(p: Outgoing, b: Outgoing, s: u32, c: Copy, t: u32) -> bool
 }
 
 // The first link that breaks E: only links from the senders in `unsure` can.
-pub fn backups_fed(job: &Job, unsure: u64, copies: &Copies, leave: &[u32; Copies::COUNT]) -> Answer
+pub fn backups_fed(
+    job: &Job,
+    unsure: u64,
+    copies: &Copies,
+    leave: &[u32; Copies::COUNT],
+) -> Result<(), Refusal>
     requires { Unsure job.now unsure copies.now leave.now }
     ensures { result ≡ answered (backup_breach job.now copies.now leave.now) }
 {
@@ -31,9 +36,9 @@ pub fn backups_fed(job: &Job, unsure: u64, copies: &Copies, leave: &[u32; Copies
             let b = copies.result_at(leave, l.delay, 2 * i + 1);
             let c = copies.at(2 * j + 1);
             if !fed(p, b, copies.set[2 * i + 1], c, copies.set[2 * j + 1]) {
-                return Answer::Refused(Refusal::BackupUnfed(i, j));
+                return Err(Refusal::BackupUnfed(i, j));
             }
         }
     }
-    Answer::Done
+    Ok(())
 }

@@ -9,7 +9,7 @@ use copies::gather::gather_task;
 use copies::sets::holds;
 use copies::table::Copies;
 use reader::job::Job;
-use reader::refusal::{Answer, Refusal};
+use reader::refusal::Refusal;
 
 // The fault sets of the first n tasks, from the state in which each is its own primary's group: `into` has for each task those from which weak
 // links arrive at it. Once a task is gathered its set stays.
@@ -25,7 +25,7 @@ pub fn fault_sets(into: &[u64; Job::MAX_TASKS], n: usize, sets: &mut [u32; Copie
 }
 
 // F. The group of the backup's node is not in the fault set.
-pub fn common_loss(job: &Job, copies: &Copies) -> Answer
+pub fn common_loss(job: &Job, copies: &Copies) -> Result<(), Refusal>
     requires { Low copies.now.node (tasks job.now) × Grouped job.now.nodes copies.now.node (tasks job.now) }
     ensures { result ≡ answered (loss_breach job.now.nodes copies.now.node copies.now.set (tasks job.now)) }
 {
@@ -33,8 +33,8 @@ pub fn common_loss(job: &Job, copies: &Copies) -> Answer
         let k = 2 * j + 1;
         let own = &job.nodes[copies.node[k] as usize];
         if holds(copies.set[k], own.group) {
-            return Answer::Refused(Refusal::CommonLoss(j));
+            return Err(Refusal::CommonLoss(j));
         }
     }
-    Answer::Done
+    Ok(())
 }

@@ -25,44 +25,30 @@ use crate::tasks::place_copies;
 use copies::table::Copies;
 use reader::job::Job;
 use reader::plan::Plan;
-use reader::refusal::Answer;
+use reader::refusal::Refusal;
 
 // F and G, over the table.
-fn judge_faults(job: &Job, copies: &Copies) -> Answer
+fn judge_faults(job: &Job, copies: &Copies) -> Result<(), Refusal>
     requires { Low copies.now.node (tasks job.now) × Grouped job.now.nodes copies.now.node (tasks job.now) }
     ensures { result ≡ answered (fault_breach copies.now job.now.nodes (tasks job.now)) }
 {
-    let f = common_loss(job, copies);
-    let Answer::Done = f else {
-        return f;
-    };
+    common_loss(job, copies)?;
     overlapping(copies, job.task_count as usize)
 }
 
 // Tasks, links, then what fault sets decide, E where the links leave it open: each part needs the one before it.
-pub fn judge_plan(job: Job, plan: Plan) -> Answer
+pub fn judge_plan(job: Job, plan: Plan) -> Result<(), Refusal>
     requires { Sound job × PlanSound job plan }
     ensures { result ≡ judge job plan }
 {
     let mut copies = Copies::empty();
     let mut leave = [0; Copies::COUNT];
-    let by_tasks = place_copies(&job, &plan, &mut copies, &mut leave);
-    let Answer::Done = by_tasks else {
-        return by_tasks;
-    };
+    place_copies(&job, &plan, &mut copies, &mut leave)?;
     let mut into = [0; Job::MAX_TASKS];
-    let walked = walk_links(&job, &copies, &leave, &mut into);
-    let by_links = walked.answer;
-    let Answer::Done = by_links else {
-        return by_links;
-    };
+    let unsure = walk_links(&job, &copies, &leave, &mut into)?;
     fault_sets(&into, job.task_count as usize, &mut copies.set);
-    let unsure = walked.unsure;
     if unsure != 0 {
-        let by_backups = backups_fed(&job, unsure, &copies, &leave);
-        let Answer::Done = by_backups else {
-            return by_backups;
-        };
+        backups_fed(&job, unsure, &copies, &leave)?;
     }
     judge_faults(&job, &copies)
 }

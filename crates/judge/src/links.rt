@@ -8,22 +8,16 @@ use copies::arrival::in_time;
 use copies::sets::late_bit;
 use copies::table::Copies;
 use reader::job::Job;
-use reader::refusal::{Answer, Refusal};
+use reader::refusal::Refusal;
 
-// The answer of D, and the senders whose links leave E to the fault sets: by the links of all others both results are in time for the backup.
-#[derive(Clone, Copy)]
-pub struct Walked {
-    pub answer: Answer,
-    pub unsure: u64,
-}
-
+// D, and the senders whose links leave E to the fault sets: by the links of all others both results are in time for the backup.
 // `into` has for each task, as bits, the tasks from which weak links lead to it; `leave` has when the result of each copy leaves.
 pub fn walk_links(
     job: &Job,
     copies: &Copies,
     leave: &[u32; Copies::COUNT],
     into: &mut [u64; Job::MAX_TASKS],
-) -> Walked
+) -> Result<u64, Refusal>
     requires { Timed job.now copies.now leave.now × (into.old ≡ replicate max_tasks 0) }
     ensures { LinksJudged job.now copies.now into.new result }
 {
@@ -45,11 +39,7 @@ pub fn walk_links(
     }
     if primary != NONE {
         let l = &job.links[primary];
-        let answer = Answer::Refused(Refusal::PrimaryUnfed(l.from as usize, l.to as usize));
-        return Walked { answer, unsure };
+        return Err(Refusal::PrimaryUnfed(l.from as usize, l.to as usize));
     }
-    Walked {
-        answer: Answer::Done,
-        unsure,
-    }
+    Ok(unsure)
 }

@@ -14,7 +14,7 @@ ghost use Rattle.judge.specs.Overlaps.{pair_of, pair_breach, pair_behind, pair_w
 use copies::layout::Layout;
 use copies::table::Copies;
 use reader::job::Job;
-use reader::refusal::{Answer, Refusal};
+use reader::refusal::Refusal;
 
 // The number of no pair: above that of each.
 const NO_PAIR: usize = Job::MAX_TASKS * Job::MAX_TASKS;
@@ -103,7 +103,7 @@ fn least_pair(copies: &Copies, layout: &Layout) -> usize
 }
 
 // G.
-pub fn overlapping(copies: &Copies, n: usize) -> Answer
+pub fn overlapping(copies: &Copies, n: usize) -> Result<(), Refusal>
     requires { Low copies.now.node n }
     ensures { result ≡ answered (first n (pair_breach copies.now n)) }
 {
@@ -111,7 +111,7 @@ pub fn overlapping(copies: &Copies, n: usize) -> Answer
     layout.lay_all(copies, 2 * n);
     let pair = least_pair(copies, &layout);
     if pair == NO_PAIR {
-        return Answer::Done;
+        return Ok(());
     }
-    Answer::Refused(Refusal::Overlap(pair / Job::MAX_TASKS, pair % Job::MAX_TASKS))
+    Err(Refusal::Overlap(pair / Job::MAX_TASKS, pair % Job::MAX_TASKS))
 }

@@ -18,9 +18,9 @@ pub fn plan_sets(job: Job, plan: Plan) -> [u32; Copies::COUNT]
 {
     let mut copies = Copies::empty();
     let mut leave = [0; Copies::COUNT];
-    place_copies(&job, &plan, &mut copies, &mut leave);
+    let _ = place_copies(&job, &plan, &mut copies, &mut leave);
     let mut into = [0; Job::MAX_TASKS];
-    walk_links(&job, &copies, &leave, &mut into);
+    let _ = walk_links(&job, &copies, &leave, &mut into);
     fault_sets(&into, job.task_count as usize, &mut copies.set);
     copies.set
 }

@@ -13,7 +13,7 @@ use copies::sets::{ALL, bit_of};
 use copies::table::Copies;
 use reader::job::Job;
 use reader::plan::Plan;
-use reader::refusal::{Answer, Refusal};
+use reader::refusal::Refusal;
 use rules::Copy;
 
 // The copy of a task that takes so long. Of the task no more than that is handed on: its run times would be copied.
@@ -29,22 +29,22 @@ pub fn copy_of(node: u32, start: u32, run: u32) -> Copy
 }
 
 // The first refusal, where the first tasks that break A, the ready time, B and C are noted.
-fn task_answer(same: usize, soon: usize, early: usize, late: usize) -> Answer
+fn task_answer(same: usize, soon: usize, early: usize, late: usize) -> Result<(), Refusal>
     ensures { result ≡ answered (seen SameNode same or_else seen TooSoon soon or_else seen Early early or_else seen Late late) }
 {
     if same != NONE {
-        return Answer::Refused(Refusal::SameNode(same));
+        return Err(Refusal::SameNode(same));
     }
     if soon != NONE {
-        return Answer::Refused(Refusal::TooSoon(soon));
+        return Err(Refusal::TooSoon(soon));
     }
     if early != NONE {
-        return Answer::Refused(Refusal::Early(early));
+        return Err(Refusal::Early(early));
     }
     if late != NONE {
-        return Answer::Refused(Refusal::Late(late));
+        return Err(Refusal::Late(late));
     }
-    Answer::Done
+    Ok(())
 }
 
 // The caller's table is filled where it lies, refused or not: as a result it would be copied. A fault set is its own primary's group before its task is
@@ -54,7 +54,7 @@ pub fn place_copies(
     plan: &Plan,
     copies: &mut Copies,
     leave: &mut [u32; Copies::COUNT],
-) -> Answer
+) -> Result<(), Refusal>
     requires { Placeable job.now plan.now × Whole copies.old × (leave.old ≡ replicate copy_count 0) }
     ensures { TasksJudged job.now plan.now copies.new leave.new result }
 {

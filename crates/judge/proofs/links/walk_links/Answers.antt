@@ -25,7 +25,7 @@ bounds-job-primary c = primary_index _ _ _ c.requires.0 _ _ _ _ c.loop-k.invaria
 
 pub returns-then-primary-ne-NONE : goal.returns-then-primary-ne-NONE
 returns-then-primary-ne-NONE c =
-    walk_done _ _ _ c.requires.0 _ _ _ _ c.loop-k.invariant (omega arith) _ (seen_last _ _ c.if-primary-ne-NONE.true)
+    walk_done _ _ _ c.requires.0 _ _ _ _ c.loop-k.invariant (omega arith) _ (seen_last _ _ _ c.if-primary-ne-NONE.true)
 
 pub returns : goal.returns
-returns c = walk_done _ _ _ c.requires.0 _ _ _ _ c.loop-k.invariant (omega arith) _ (seen_done _ _ c.if-primary-ne-NONE.false)
+returns c = walk_done _ _ _ c.requires.0 _ _ _ _ c.loop-k.invariant (omega arith) _ (seen_done _ _ _ c.if-primary-ne-NONE.false)
