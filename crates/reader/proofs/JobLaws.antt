@@ -7,18 +7,23 @@ use lib.ListN.{length, take, drop, length-drop}
 use lib.Seq.{take_all}
 use native.Mathlib.Omega.{arith}
 use borrow.Author.Tests.{lt-leb}
+use Rattle.std.specs.Prelude.{Result, Ok}
 use Rattle.reader.specs.declared.job.Job.{Job}
 use Rattle.reader.specs.declared.job.Node.{Node}
 use Rattle.reader.specs.declared.job.Task.{Task}
 use Rattle.reader.specs.declared.job.Link.{Link}
+use Rattle.reader.specs.declared.job_file.Section.{Section}
 use Rattle.reader.specs.declared.refusal.Refusal.{Refusal}
 use Rattle.reader.specs.declared.refusal.Refusal.TheVariants.{Tail}
 use Rattle.reader.specs.First.{unless}
-use Rattle.reader.specs.Limits.{newest_version, min_tasks}
+use Rattle.reader.specs.Limits.{newest_version, min_tasks, max_nodes, max_tasks, max_links}
 use Rattle.reader.specs.Number.{number_at, version_fault}
-use Rattle.reader.specs.JobFile.{job_version, task_width, task_section, link_section, job_length, node_count, task_count, link_count, nodes_fault}
+use Rattle.reader.specs.JobFile.{job_version, task_width, node_section, task_section, link_section, job_length, node_count, task_count, link_count, nodes_fault}
 use Rattle.reader.specs.JobFile.{nodes_at, tasks_fault, tasks_at, links_fault, links_at, tail_fault, job_fault, job_at}
-use Rattle.reader.proofs.Chain.{pass, stop}
+use Rattle.reader.specs.Refusals.{resulted}
+use Rattle.reader.specs.Reads.{Reads}
+use Rattle.reader.proofs.NumberLaws.{is_none, is_value}
+use Rattle.reader.proofs.Chain.{pass, stop, reads_none, reads_value}
 use Rattle.reader.proofs.Accepted.{nodes_good, tasks_good}
 use Rattle.reader.proofs.Faultless.{good_tail}
 
@@ -32,84 +37,144 @@ pub tail_some : (s : List ℕ) (e : ℕ) → e < length s → tail_fault s e ≡
 unfolding tail_fault unless
 tail_some s e h = rw (lt-leb (length s) e h)
 
--- each section behind those that passed: x is the version, p, n and m are the counts
-module _ (s : List ℕ) where
-  pub bad_version : {r : Refusal} → version_fault newest_version s ≡ some r → job_fault s ≡ some r
+-- what is read so far, each part behind the one before it: the version x, the nodes, the tasks, the links
+pub record VersionRead (s : List ℕ) (x : ℕ) : Type 0 where
+  pub fine : version_fault newest_version s ≡ none
+  pub is : x ≡ job_version s
+
+pub record NodesRead (s : List ℕ) (x : ℕ) (ns : Section Node max_nodes) : Type 0 where
+  pub version : VersionRead s x
+  pub fine : nodes_fault x s ≡ none
+  pub count : ns.count ≡ node_count s
+  pub list : ns.list ≡ nodes_at x s ns.count
+  pub ends : ns.end ≡ task_section x ns.count
+
+pub record TasksRead (s : List ℕ) (x : ℕ) (ns : Section Node max_nodes) (ts : Section Task max_tasks) : Type 0 where
+  pub nodes : NodesRead s x ns
+  pub fine : tasks_fault x s ns.end ns.count ≡ none
+  pub count : ts.count ≡ number_at s ns.end
+  pub list : ts.list ≡ tasks_at x s ns.end ns.count ts.count
+  pub ends : ts.end ≡ ns.end + 4 + ts.count * task_width x ns.count
+
+pub record LinksRead (s : List ℕ) (x : ℕ) (ns : Section Node max_nodes) (ts : Section Task max_tasks) (ls : Section Link max_links) : Type 0 where
+  pub tasks : TasksRead s x ns ts
+  pub fine : links_fault s ts.end ts.count ≡ none
+  pub count : ls.count ≡ number_at s ts.end
+  pub list : ls.list ≡ links_at s ts.end ls.count
+  pub ends : ls.end ≡ ts.end + 4 + 12 * ls.count
+
+-- so each part is read where its reader gives it
+pub version_read : {s : List ℕ} {r : Result ℕ Refusal} {x : ℕ} → r ≡ resulted (version_fault newest_version s) (number_at s 0) → r ≡ Ok x
+    → VersionRead s x
+version_read is q = record { fine = is_none _ _ _ is q; is = is_value _ _ _ is q }
+
+pub nodes_read : {s : List ℕ} {x : ℕ} {r : Result (Section Node max_nodes) Refusal} {ns : Section Node max_nodes} → VersionRead s x
+    → Reads (nodes_fault x s) r (λ ns. (ns.count ≤ max_nodes) × (ns.end ≤ 1024) × (ns.count ≡ number_at s node_section)
+    × (ns.list ≡ nodes_at x s ns.count) × (ns.end ≡ task_section x ns.count)) → r ≡ Ok ns → NodesRead s x ns
+nodes_read v reads q =
+    let value = reads_value reads q in
+    record { version = v; fine = reads_none reads q; count = value.2; list = value.3; ends = value.4 }
+
+-- the tasks from the part of the file behind the nodes
+pub tasks_read : {s : List ℕ} {x : ℕ} {ns : Section Node max_nodes} {r : Result (Section Task max_tasks) Refusal} {ts : Section Task max_tasks} → NodesRead s x ns
+    → Reads (tasks_fault x s ns.end ns.count) r (λ ts. (ts.count ≡ number_at s ns.end) × (ts.list ≡ tasks_at x s ns.end ns.count ts.count)
+    × (ts.end ≡ ns.end + 4 + ts.count * task_width x ns.count)) → r ≡ Ok ts → TasksRead s x ns ts
+tasks_read a reads q =
+    let value = reads_value reads q in
+    record { nodes = a; fine = reads_none reads q; count = value.0; list = value.1; ends = value.2 }
+
+pub links_read : {s : List ℕ} {x : ℕ} {ns : Section Node max_nodes} {ts : Section Task max_tasks} {r : Result (Section Link max_links) Refusal} {ls : Section Link max_links}
+    → TasksRead s x ns ts → Reads (links_fault s ts.end ts.count) r (λ ls. (ls.count ≤ max_links) × (ls.count ≡ number_at s ts.end)
+    × (ls.list ≡ links_at s ts.end ls.count) × (ls.end ≡ ts.end + 4 + 12 * ls.count)) → r ≡ Ok ls → LinksRead s x ns ts ls
+links_read b reads q =
+    let value = reads_value reads q in
+    record { tasks = b; fine = reads_none reads q; count = value.1; list = value.2; ends = value.3 }
+
+-- the first fault is that of the part that is read next
+pub bad_version : (s : List ℕ) {r : Refusal} → version_fault newest_version s ≡ some r → job_fault s ≡ some r
+unfolding job_fault
+bad_version s q = stop _ q
+
+pub bad_nodes : {s : List ℕ} {x : ℕ} {r : Refusal} → VersionRead s x → nodes_fault x s ≡ some r → job_fault s ≡ some r
+unfolding job_fault
+bad_nodes {s} {x} {r} v q = pass _ v.fine ∙ stop _ (subst (λ x. nodes_fault x s ≡ some r) v.is q)
+
+module _ {s : List ℕ} {x : ℕ} {ns : Section Node max_nodes} (a : NodesRead s x ns) where
+  nodes_fine : nodes_fault (job_version s) s ≡ none
+  nodes_fine = subst (λ x. nodes_fault x s ≡ none) a.version.is a.fine
+
+  start_is : ns.end ≡ task_section (job_version s) (node_count s)
+  start_is = a.ends ∙ ap₂ task_section a.version.is a.count
+
+  pub node_room : ns.end ≤ length s
+  node_room = omega (arith, (nodes_good (job_version s) s nodes_fine).room, start_is)
+
+  -- the faults of the tasks as the code has them are those of the file
+  tasks_same : tasks_fault x s ns.end ns.count ≡ tasks_fault (job_version s) s (task_section (job_version s) (node_count s)) (node_count s)
+  tasks_same = cc (start_is)
+
+  pub bad_tasks : {r : Refusal} → tasks_fault x s ns.end ns.count ≡ some r → job_fault s ≡ some r
   unfolding job_fault
-  bad_version q = stop _ q
+  bad_tasks q = pass _ a.version.fine ∙ pass _ nodes_fine ∙ stop _ (sym tasks_same ∙ q)
 
-  module _ (x : ℕ) (fv : version_fault newest_version s ≡ none) (ex : x ≡ job_version s) where
-    pub bad_nodes : {r : Refusal} → nodes_fault x s ≡ some r → job_fault s ≡ some r
-    unfolding job_fault
-    bad_nodes {r} q = pass _ fv ∙ stop _ (subst (λ x. nodes_fault x s ≡ some r) ex q)
+module _ {s : List ℕ} {x : ℕ} {ns : Section Node max_nodes} {ts : Section Task max_tasks} (b : TasksRead s x ns ts) where
+  n_is : ts.count ≡ task_count s
+  n_is = b.count ∙ ap (number_at s) (start_is b.nodes)
 
-    module _ (p start : ℕ) (ns : List Node) (fn : nodes_fault x s ≡ none) (ep : p ≡ node_count s) (en : ns ≡ nodes_at x s p)
-        (es : start ≡ task_section x p) where
-      nodes_fine : nodes_fault (job_version s) s ≡ none
-      nodes_fine = subst (λ x. nodes_fault x s ≡ none) ex fn
+  behind_is : ts.end ≡ link_section (job_version s) (node_count s) (task_count s)
+  behind_is =
+      let version = b.nodes.version.is in
+      let nodes = b.nodes.count in
+      b.ends ∙ cc (start_is b.nodes, n_is)
 
-      start_is : start ≡ task_section (job_version s) (node_count s)
-      start_is = es ∙ ap₂ task_section ex ep
+  tasks_fine : tasks_fault (job_version s) s (task_section (job_version s) (node_count s)) (node_count s) ≡ none
+  tasks_fine = sym (tasks_same b.nodes) ∙ b.fine
 
-      pub node_room : start ≤ length s
-      node_room = omega (arith, (nodes_good (job_version s) s nodes_fine).room, start_is)
+  pub task_least : min_tasks ≤ ts.count
+  task_least = omega (arith, (tasks_good (job_version s) s _ _ tasks_fine).count.least, n_is)
 
-      -- the faults of the tasks as the code has them are those of the file
-      tasks_same : tasks_fault x s start p ≡ tasks_fault (job_version s) s (task_section (job_version s) (node_count s)) (node_count s)
-      tasks_same = cc (start_is)
+  links_same : links_fault s ts.end ts.count ≡ links_fault s (link_section (job_version s) (node_count s) (task_count s)) (task_count s)
+  links_same = ap₂ (links_fault s) behind_is n_is
 
-      pub bad_tasks : {r : Refusal} → tasks_fault x s start p ≡ some r → job_fault s ≡ some r
-      unfolding job_fault
-      bad_tasks q = pass _ fv ∙ pass _ nodes_fine ∙ stop _ (sym tasks_same ∙ q)
+  pub bad_links : {r : Refusal} → links_fault s ts.end ts.count ≡ some r → job_fault s ≡ some r
+  unfolding job_fault
+  bad_links q = pass _ b.nodes.version.fine ∙ pass _ (nodes_fine b.nodes) ∙ pass _ tasks_fine ∙ stop _ (sym links_same ∙ q)
 
-      module _ (n behind : ℕ) (ts : List Task) (ft : tasks_fault x s start p ≡ none) (eq : n ≡ number_at s start) (et : ts ≡ tasks_at x s start p n)
-          (eb : behind ≡ start + 4 + n * task_width x p) where
-        n_is : n ≡ task_count s
-        n_is = eq ∙ ap (number_at s) start_is
+module _ {s : List ℕ} {x : ℕ} {ns : Section Node max_nodes} {ts : Section Task max_tasks} {ls : Section Link max_links} (d : LinksRead s x ns ts ls) where
+  m_is : ls.count ≡ link_count s
+  m_is = d.count ∙ ap (number_at s) (behind_is d.tasks)
 
-        behind_is : behind ≡ link_section (job_version s) (node_count s) (task_count s)
-        behind_is = eb ∙ cc (start_is, n_is)
+  to_tail : job_fault s ≡ tail_fault s ls.end
+  unfolding job_fault
+  to_tail =
+      let e : ls.end ≡ job_length (job_version s) (node_count s) (task_count s) (link_count s) =
+      d.ends ∙ ap₂ (λ b m. b + 4 + 12 * m) (behind_is d.tasks) m_is in
+      let nodes = d.tasks.nodes in
+      pass _ nodes.version.fine
+      ∙ pass _ (nodes_fine nodes)
+      ∙ pass _ (tasks_fine d.tasks)
+      ∙ pass _ (sym (links_same d.tasks) ∙ d.fine)
+      ∙ ap (tail_fault s) (sym e)
 
-        pub task_least : min_tasks ≤ n
-        task_least = omega (arith, (tasks_good (job_version s) s _ _ (sym tasks_same ∙ ft)).count.least, n_is)
+  pub bad_tail : ls.end < length s → job_fault s ≡ some (Tail ls.end)
+  bad_tail h = to_tail ∙ tail_some s _ h
 
-        links_same : links_fault s behind n ≡ links_fault s (link_section (job_version s) (node_count s) (task_count s)) (task_count s)
-        links_same = ap₂ (links_fault s) behind_is n_is
+  pub no_fault : length s ≤ ls.end → job_fault s ≡ none
+  no_fault h = to_tail ∙ good_tail s _ h
 
-        pub bad_links : {r : Refusal} → links_fault s behind n ≡ some r → job_fault s ≡ some r
-        unfolding job_fault
-        bad_links q = pass _ fv ∙ pass _ nodes_fine ∙ pass _ (sym tasks_same ∙ ft) ∙ stop _ (sym links_same ∙ q)
-
-        module _ (m end : ℕ) (ls : List Link) (fl : links_fault s behind n ≡ none) (em : m ≡ number_at s behind) (el : ls ≡ links_at s behind m)
-            (ee : end ≡ behind + 4 + 12 * m) where
-          m_is : m ≡ link_count s
-          m_is = em ∙ ap (number_at s) behind_is
-
-          to_tail : job_fault s ≡ tail_fault s end
-          unfolding job_fault
-          to_tail =
-              let e : end ≡ job_length (job_version s) (node_count s) (task_count s) (link_count s) = ee ∙ ap₂ (λ b m. b + 4 + 12 * m) behind_is m_is in
-              pass _ fv ∙ pass _ nodes_fine ∙ pass _ (sym tasks_same ∙ ft) ∙ pass _ (sym links_same ∙ fl) ∙ ap (tail_fault s) (sym e)
-
-          pub bad_tail : end < length s → job_fault s ≡ some (Tail end)
-          bad_tail h = to_tail ∙ tail_some s _ h
-
-          pub whole_fine : length s ≤ end → job_fault s ≡ none
-          whole_fine h = to_tail ∙ good_tail s _ h
-
-          pub whole_job : ◌≡◌ {A = Job} (record {
-            version = x;
-            node_count = p;
-            nodes = ns;
-            task_count = n;
-            tasks = ts;
-            link_count = m;
-            links = ls;
-          }) (job_at s)
-          unfolding job_at
-          whole_job =
-              let eq = n_is in
-              let ea = start_is in
-              let ez = behind_is in
-              let ew = m_is in
-              cc
+  pub job_is : ◌≡◌ {A = Job} (record {
+    version = x;
+    node_count = ns.count;
+    nodes = ns.list;
+    task_count = ts.count;
+    tasks = ts.list;
+    link_count = ls.count;
+    links = ls.list;
+  }) (job_at s)
+  unfolding job_at
+  job_is =
+      let et = n_is d.tasks in
+      let ea = start_is d.tasks.nodes in
+      let eb = behind_is d.tasks in
+      let em = m_is in
+      cc

@@ -13,5 +13,5 @@ returns c =
     let m = c.args.m in
     c.lt.ensures
     ∙ split (ltb l.from m.from) (λ e. rw e)
-        (λ e. rw e (split (eqb l.from m.from) (λ i. rw i (split (ltb l.to m.to) (λ o. rw o) (λ o. rw o (split (eqb l.to m.to) (λ u. rw u) (λ u. rw u)))))
-            (λ i. rw i)))
+    (λ e. rw e (split (eqb l.from m.from) (λ i. rw i (split (ltb l.to m.to) (λ o. rw o) (λ o. rw o (split (eqb l.to m.to) (λ u. rw u) (λ u. rw u)))))
+    (λ i. rw i)))
