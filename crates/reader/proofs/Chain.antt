@@ -20,7 +20,8 @@ unfolding ◌or_else◌
 stop b e = rw e
 
 -- what a `?` hands on, where the whole has that fault
-pub handed : {A : Type 0} {o : Option Refusal} {e : Refusal} (v : A) (w : Result A Refusal) → IsErrAnd w (λ r. r ≡ e) → o ≡ some e → w ≡ resulted o v
+pub handed : {A : Type 0} {o : Option Refusal} {e : Refusal} (v : A) (w : Result A Refusal) → IsErrAnd w (λ r. r ≡ e)
+    → o ≡ some e → w ≡ resulted o v
 handed v (Ok x) h q = absurd h
 handed v (Err r) h q = ap Err h ∙ sym (ap (λ o. resulted o v) q)
 

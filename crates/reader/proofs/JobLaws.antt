@@ -76,14 +76,16 @@ nodes_read v reads q =
     record { version = v; fine = reads_none reads q; count = value.2; list = value.3; ends = value.4 }
 
 -- the tasks from the part of the file behind the nodes
-pub tasks_read : {s : List ℕ} {x : ℕ} {ns : Section Node max_nodes} {r : Result (Section Task max_tasks) Refusal} {ts : Section Task max_tasks} → NodesRead s x ns
+pub tasks_read : {s : List ℕ} {x : ℕ} {ns : Section Node max_nodes} {r : Result (Section Task max_tasks) Refusal}
+    {ts : Section Task max_tasks} → NodesRead s x ns
     → Reads (tasks_fault x s ns.end ns.count) r (λ ts. (ts.count ≡ number_at s ns.end) × (ts.list ≡ tasks_at x s ns.end ns.count ts.count)
     × (ts.end ≡ ns.end + 4 + ts.count * task_width x ns.count)) → r ≡ Ok ts → TasksRead s x ns ts
 tasks_read a reads q =
     let value = reads_value reads q in
     record { nodes = a; fine = reads_none reads q; count = value.0; list = value.1; ends = value.2 }
 
-pub links_read : {s : List ℕ} {x : ℕ} {ns : Section Node max_nodes} {ts : Section Task max_tasks} {r : Result (Section Link max_links) Refusal} {ls : Section Link max_links}
+pub links_read : {s : List ℕ} {x : ℕ} {ns : Section Node max_nodes} {ts : Section Task max_tasks}
+    {r : Result (Section Link max_links) Refusal} {ls : Section Link max_links}
     → TasksRead s x ns ts → Reads (links_fault s ts.end ts.count) r (λ ls. (ls.count ≤ max_links) × (ls.count ≡ number_at s ts.end)
     × (ls.list ≡ links_at s ts.end ls.count) × (ls.end ≡ ts.end + 4 + 12 * ls.count)) → r ≡ Ok ls → LinksRead s x ns ts ls
 links_read b reads q =
