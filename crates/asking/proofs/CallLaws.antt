@@ -22,7 +22,7 @@ use Rattle.rules.specs.Longer.{longer_job, longer_plan}
 use Rattle.rules.specs.Asking.{ask, longer, unless_stale, commit}
 use Rattle.rules.proofs.ExtendLaws.{rows_to_same}
 use Rattle.rules.proofs.LongerLaws.{longer_extends, longer_sound, longer_planned}
-use Rattle.planner.specs.declared.task.Pair.{Pair}
+use Rattle.planner.specs.declared.board.Pair.{Pair}
 use Rattle.planner.specs.Tasks.{pair_row, attempted}
 use Rattle.asking.specs.declared.Asked.{Asked}
 use Rattle.asking.specs.declared.Committed.{Committed}

@@ -16,7 +16,7 @@ ghost use Rattle.asking.specs.Calls.{Asking, Committing, placeless, asked, bookl
 use crate::beside::place_new;
 use crate::longer::{longer_job, longer_plan};
 use judge::judge_plan;
-use planner::task::Pair;
+use planner::board::Pair;
 use reader::job::Job;
 use reader::plan::{Place, Plan};
 use reader::refusal::{Answer, Refusal};

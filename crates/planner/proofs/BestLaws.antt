@@ -16,6 +16,7 @@ use Rattle.reader.proofs.TestLaws.{split, and_l, and_r, not_e, not_x}
 use Rattle.reader.proofs.FirstLaws.{first_some, some_first, first_none, none_first, first_same, when_some, when_is, some_when, none_when}
 use Rattle.rules.specs.declared.Copy.{Copy}
 use Rattle.copies.specs.declared.table.Copies.{Copies}
+use Rattle.planner.specs.declared.board.Board.{Board}
 use Rattle.copies.specs.Sets.{has}
 use Rattle.copies.specs.Layout.{spots_of}
 use Rattle.planner.specs.declared.inputs.Ready.{Ready}
@@ -118,11 +119,11 @@ module _ (d : ℕ) where
           (λ e. rw e)
 
 -- a search over the first k nodes
-module _ (cs : Copies) (order count : List ℕ) (search : Search) where
+module _ (board : Board) (search : Search) where
   pub record Best (k : ℕ) (best : Copy) : Type 0 where
     pub within : k ≤ search.nodes
     pub most : best.finish ≤ search.task.deadline + 1
-    pub is : place_by best search.task.deadline ≡ best_of search.task.run (suc search.task.deadline) (fits cs order count search) k
+    pub is : place_by best search.task.deadline ≡ best_of search.task.run (suc search.task.deadline) (fits board search) k
 
   pub first_best : (best : Copy) → best ≡ no_place search.task.deadline → Best 0 best
   first_best best e =
@@ -132,14 +133,14 @@ module _ (cs : Copies) (order count : List ℕ) (search : Search) where
         is = ap (λ c. place_by c search.task.deadline) e ∙ nowhere_none search.task.deadline ∙ best_start _ _ _;
       }
 
-  module _ (pre : Searched cs order count search) (n : ℕ) (best : Copy) (so_far : Best n best) (below : n < search.nodes) where
+  module _ (pre : Searched board search) (n : ℕ) (best : Copy) (so_far : Best n best) (below : n < search.nodes) where
     abbrev run : ℕ
     run = get_or search.task.run n 0
 
     few : n < max_nodes
     few = omega (arith, pre.nodes_most)
 
-    next : (r : Copy) (b : Option Copy) → r.finish ≤ search.task.deadline + 1 → b ≡ on_node n run best.finish (fits cs order count search)
+    next : (r : Copy) (b : Option Copy) → r.finish ≤ search.task.deadline + 1 → b ≡ on_node n run best.finish (fits board search)
         → place_by r search.task.deadline ≡ (b or_else place_by best search.task.deadline) → Best (n + 1) r
     next r b most e h =
         record {
@@ -150,23 +151,23 @@ module _ (cs : Copies) (order count : List ℕ) (search : Search) where
 
     -- the node's part of the search
     fits_here : (from : ℕ) → from ≡ max (ready_on search.ready n) search.least
-        → on_node n run best.finish (node_ok cs search.set (spots_of order count n) from search.barred)
-        ≡ on_node n run best.finish (fits cs order count search)
+        → on_node n run best.finish (node_ok board.copies search.set (spots_of board.layout.order board.layout.count n) from search.barred)
+        ≡ on_node n run best.finish (fits board search)
     unfolding fits
     fits_here from start =
-        on_node_same n run best.finish _ _ (λ s. ap (λ x. node_ok cs search.set (spots_of order count n) x search.barred (spot n s run)) start)
+        on_node_same n run best.finish _ _ (λ s. ap (λ x. node_ok board.copies search.set (spots_of board.layout.order board.layout.count n) x search.barred (spot n s run)) start)
 
     -- a node that may not have the copy
     pub best_passed : (r : Copy) → (ltb 0 run and not (has search.barred n)) ≡ false → r ≡ best → Best (n + 1) r
     unfolding ◌or_else◌ ◌and◌
     best_passed r h e = subst (Best (n + 1)) (sym e) (split (ltb 0 run)
         (λ e. next best none so_far.most
-        (barred_nothing cs search.set (spots_of order count n) _ search.barred n run best.finish (not_x _ (rw e at h)) ∙ fits_here _ refl) refl)
+        (barred_nothing board.copies search.set (spots_of board.layout.order board.layout.count n) _ search.barred n run best.finish (not_x _ (rw e at h)) ∙ fits_here _ refl) refl)
         (λ e. next best none so_far.most (on_node_unable n best.finish _ run (let z = ltb-false 0 run e in omega arith)) refl))
 
     -- one that may
     module _ (may : (ltb 0 run and not (has search.barred n)) ≡ true) (from : ℕ) (start : from ≡ max (ready_on search.ready n) search.least) where
-      pub asked : Asked cs.finish order (record { node = n; count = get_or count n 0; set = search.set; run = run }) from
+      pub asked : Asked board (record { node = n; count = get_or board.layout.count n 0; set = search.set; run = run }) from
       asked =
           record {
             node = few;
@@ -176,20 +177,20 @@ module _ (cs : Copies) (order count : List ℕ) (search : Search) where
             ends = pre.ends;
           }
 
-      pub best_next : (r : Copy) → r ≡ sooner_of best n (sweep cs search.set run (spots_of order count n) from) run → Best (n + 1) r
+      pub best_next : (r : Copy) → r ≡ sooner_of best n (sweep board.copies search.set run (spots_of board.layout.order board.layout.count n) from) run → Best (n + 1) r
       best_next r h =
-          let s = sweep cs search.set run (spots_of order count n) from in
+          let s = sweep board.copies search.set run (spots_of board.layout.order board.layout.count n) from in
           next r (started_at n run best.finish s)
           (subst (λ c. c.finish ≤ search.task.deadline + 1) (sym h) (sooner_most _ best so_far.most n s run))
-          (swept cs search.set n run best.finish from (spots_of order count n) (pre.rising n few) (ltb-true 0 run (and_l _ _ may)) s refl
-          ∙ unbarred cs search.set (spots_of order count n) from search.barred n run best.finish (not_e _ (and_r _ _ may)) ∙ fits_here from start)
+          (swept board.copies search.set n run best.finish from (spots_of board.layout.order board.layout.count n) (pre.rising n few) (ltb-true 0 run (and_l _ _ may)) s refl
+          ∙ unbarred board.copies search.set (spots_of board.layout.order board.layout.count n) from search.barred n run best.finish (not_e _ (and_r _ _ may)) ∙ fits_here from start)
           (ap (λ c. place_by c search.task.deadline) h ∙ sooner_is _ best so_far.most n s run)
 
 -- the last node is behind
-pub best_found : (cs : Copies) (order count : List ℕ) (search : Search) (n : ℕ) (best : Copy) (o : Option Copy) → Best cs order count search n best
+pub best_found : (board : Board) (search : Search) (n : ℕ) (best : Copy) (o : Option Copy) → Best board search n best
     → search.nodes ≤ n → o ≡ place_by best search.task.deadline
-    → o ≡ best_of search.task.run (suc search.task.deadline) (fits cs order count search) search.nodes
-best_found cs order count search n best o h p e = e ∙ best_done _ _ _ n search.nodes _ (omega (arith, h.within)) h.is
+    → o ≡ best_of search.task.run (suc search.task.deadline) (fits board search) search.nodes
+best_found board search n best o h p e = e ∙ best_done _ _ _ n search.nodes _ (omega (arith, h.within)) h.is
 
 pub start_at_lem : (r : Ready) (n least ready from : ℕ) → ready ≡ ready_on r n → from ≡ max ready least → from ≡ max (ready_on r n) least
 start_at_lem r n least ready from e h = h ∙ ap (λ x. max x least) e

@@ -1,7 +1,6 @@
 -- Ready times and latest arrivals, link by link along the chain of a task's links.
 use Prim.Native.Nat.{ℕ, ◌≤◌, ◌<◌, max}
 use mathlib.Core.Bool.{Bool, true, false, not, cond}
-use mathlib.Core.List.{List}
 use mathlib.Core.Path.{◌≡◌, refl, sym, ◌∙◌, ap, ap₂, subst}
 use lib.Bits.{bit_and}
 use lib.Dec.{leb, ltb, eqb}
@@ -16,10 +15,12 @@ use Rattle.copies.specs.Sets.{meets}
 use Rattle.copies.specs.Arrival.{arrival_of, comes}
 use Rattle.copies.specs.Chain.{Chain}
 use Rattle.copies.proofs.ArrivalLaws.{leb_max}
+use Rattle.planner.specs.declared.board.Board.{Board}
+use Rattle.planner.specs.declared.senders.Incoming.{Incoming}
 use Rattle.planner.specs.declared.senders.Sender.{Sender}
 use Rattle.planner.specs.declared.inputs.Reach.{Reach}
 use Rattle.planner.specs.declared.inputs.Ready.{Ready}
-use Rattle.planner.specs.Senders.{Results, latest_input, InBy, Sending}
+use Rattle.planner.specs.Senders.{latest_input, InBy, Sending}
 use Rattle.planner.specs.Inputs.{ready_on, farther_of, fed_by, Farthest, OwnTime, ReadyTime, all_fed, Reached, Owned, Given}
 use Rattle.planner.proofs.SenderLaws.{Walk, walk_start, Next}
 
@@ -112,29 +113,29 @@ and_swap : (a b : Bool) → (a and b) ≡ (b and a)
 and_swap a b = same_test _ _ (λ h. and_i _ _ (and_r _ _ h) (and_l _ _ h)) (λ h. and_i _ _ (and_r _ _ h) (and_l _ _ h))
 
 -- for a copy of a set, along the chains that begin at `last`
-module _ (next from delay : List ℕ) (rs : Results) (last set : ℕ) where
+module _ (net : Incoming) (board : Board) (last set : ℕ) where
   abbrev fed : (ℕ → ℕ) → ℕ → ℕ → Copy → Bool
-  fed = all_fed next from delay rs last set
+  fed = all_fed net board last set
 
   -- what `farthest` keeps: r is the latest arrival by the links passed, down to `left`
   pub record Reaching (left : ℕ) (r : Reach) : Type 0 where
-    pub walk : Walk next from delay rs last left
+    pub walk : Walk net board last left
     pub most : r.at ≤ latest_input
-    pub covers : (key : ℕ → ℕ) (j : ℕ) → Chain key next j last
+    pub covers : (key : ℕ → ℕ) (j : ℕ) → Chain key net.next j last
         → (d : Copy) → r.at ≤ d.start → fed key j left d ≡ true → fed key j last d ≡ true
-    pub reached : (key : ℕ → ℕ) (j : ℕ) → Chain key next j last
+    pub reached : (key : ℕ → ℕ) (j : ℕ) → Chain key net.next j last
         → (d : Copy) → (d.node ≡ r.from → ⊥) → fed key j last d ≡ true → r.at ≤ d.start
 
-  pub reaching_start : Sending next from delay rs last → (r : Reach) → r.at ≡ 0 → Reaching last r
+  pub reaching_start : Sending net board last → (r : Reach) → r.at ≡ 0 → Reaching last r
   reaching_start pre r z =
       record {
-        walk = walk_start next from delay rs last pre;
+        walk = walk_start net board last pre;
         most = omega (arith, z);
         covers = λ key j c d p h. h;
         reached = λ key j c d ne h. omega (arith, z);
       }
 
-  pub reaching_done : (left : ℕ) (r : Reach) → left ≡ 0 → Reaching left r → Reached next from delay rs last set r
+  pub reaching_done : (left : ℕ) (r : Reach) → left ≡ 0 → Reaching left r → Reached net board last set r
   reaching_done left r e h =
       record {
         most = h.most;
@@ -146,20 +147,20 @@ module _ (next from delay : List ℕ) (rs : Results) (last set : ℕ) where
 
   -- what `own_time` keeps: own is the time on node q by the links passed
   pub record Owning (q left own : ℕ) : Type 0 where
-    pub walk : Walk next from delay rs last left
+    pub walk : Walk net board last left
     pub most : own ≤ latest_input
-    pub is : (key : ℕ → ℕ) (j : ℕ) → Chain key next j last
+    pub is : (key : ℕ → ℕ) (j : ℕ) → Chain key net.next j last
         → (d : Copy) → d.node ≡ q → (leb own d.start and fed key j left d) ≡ fed key j last d
 
-  pub owning_start : Sending next from delay rs last → (q : ℕ) → Owning q last 0
+  pub owning_start : Sending net board last → (q : ℕ) → Owning q last 0
   owning_start pre q =
       record {
-        walk = walk_start next from delay rs last pre;
+        walk = walk_start net board last pre;
         most = omega arith;
         is = λ key j c d n. and_if _ _ (le-leb 0 d.start (omega arith));
       }
 
-  pub owning_done : (q left own : ℕ) → left ≡ 0 → Owning q left own → Owned next from delay rs last set q own
+  pub owning_done : (q left own : ℕ) → left ≡ 0 → Owning q left own → Owned net board last set q own
   owning_done q left own e h =
       record {
         most = h.most;
@@ -168,7 +169,7 @@ module _ (next from delay : List ℕ) (rs : Results) (last set : ℕ) where
       }
 
   -- one link more, by which x comes
-  module _ (left : ℕ) (x : Sender) (n : Next next from delay rs last left x) where
+  module _ (left : ℕ) (x : Sender) (n : Next net board last left x) where
     abbrev p : Outgoing
     p = x.primary
 
@@ -231,7 +232,7 @@ module _ (far : Reach) (own : ℕ) where
   ready_most a b q = split (eqb q far.from) (λ e. rw e b) (λ e. rw e a)
 
   -- what `gather` gives
-  pub given : (next from delay : List ℕ) (rs : Results) (last set : ℕ) → Reached next from delay rs last set far
-      → Owned next from delay rs last set far.from own → Given next from delay rs last set joined
-  given next from delay rs last set f o =
+  pub given : (net : Incoming) (board : Board) (last set : ℕ) → Reached net board last set far
+      → Owned net board last set far.from own → Given net board last set joined
+  given net board last set f o =
       record { most = ready_most f.most o.most; ready = λ key j c. ready_time _ (f.far key j c) (o.own key j c) }

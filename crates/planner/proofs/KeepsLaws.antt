@@ -1,7 +1,7 @@
 -- One task placed: what a search asks of a copy is what the planner's rules ask of it, and what the searches give is what `place_task` gives.
 use Prim.Native.Nat.{ℕ, suc, ◌+◌, ◌-◌, ◌*◌, ◌≤◌, ◌<◌, max}
 use mathlib.Core.Bool.{Bool, true, false, not}
-use mathlib.Core.List.{List, []}
+use mathlib.Core.List.{List}
 use mathlib.Core.Option.{some}
 use mathlib.Core.Path.{◌≡◌, refl, sym, ◌∙◌, ap, ap₂, subst}
 use lib.Bits.{bit_and}
@@ -30,7 +30,7 @@ use Rattle.rules.proofs.EarliestLaws.{earliest_some}
 use Rattle.rules.proofs.FaultSetLaws.{faults_here}
 use Rattle.copies.specs.declared.table.Copies.{Copies}
 use Rattle.copies.specs.Sets.{has, meets, every_group}
-use Rattle.copies.specs.Table.{table, set_at, row_of}
+use Rattle.copies.specs.Table.{set_at, row_of}
 use Rattle.copies.specs.Layout.{spots_of}
 use Rattle.copies.specs.Clash.{free, free_of}
 use Rattle.copies.specs.Gathered.{joined}
@@ -38,7 +38,9 @@ use Rattle.copies.proofs.SetLaws.{has_none, has_both, empty_set}
 use Rattle.copies.proofs.ArrivalLaws.{comes_is, leb_max, backup_fed}
 use Rattle.copies.proofs.LayoutLaws.{laid_filled, laid_rising}
 use Rattle.copies.proofs.ClashLaws.{free_timeline, free_primary, free_backup}
+use Rattle.planner.specs.declared.board.Board.{Board}
 use Rattle.planner.specs.declared.inputs.Ready.{Ready}
+use Rattle.planner.specs.declared.senders.Incoming.{Incoming}
 use Rattle.planner.specs.declared.search.Search.{Search}
 use Rattle.std.specs.Prelude.{Option as Maybe, Some, None, Ok, Err}
 use Rattle.planner.specs.declared.task.Want.{Want}
@@ -48,7 +50,7 @@ use Rattle.planner.specs.Inputs.{ready_on, fed_by, Given}
 use Rattle.planner.specs.Faults.{Faulted}
 use Rattle.planner.specs.Tasks.{primary_from, Wanted, attempted}
 use Rattle.planner.proofs.PeerLaws.{peers_joined}
-use Rattle.planner.proofs.SentLaws.{out_of, into_every, into_sending, sends, sends_is, into_faults}
+use Rattle.planner.proofs.SentLaws.{into_every, into_sending, sends, sends_is, into_faults}
 
 -- searches that agree on every place that may count
 gate : (a b x y : Bool) (c : Copy) → (a ≡ true → b ≡ true → x ≡ y) → when (a and b and x) c ≡ when (a and b and y) c
@@ -120,8 +122,10 @@ shuffle true true false false rg x h e = refl
 shuffle true false re false rg x h e = refl
 shuffle false rb re false rg x h e = refl
 
-module _ (next from delay : List ℕ) (cs : Copies) (leave order count peers : List ℕ) (want : Want)
-    (w : Wanted next from delay cs leave order count peers want) where
+module _ (net : Incoming) (board : Board) (peers : List ℕ) (want : Want) (w : Wanted net board peers want) where
+  abbrev cs : Copies
+  cs = board.copies
+
   abbrev job : Job
   job = w.job
 
@@ -131,19 +135,15 @@ module _ (next from delay : List ℕ) (cs : Copies) (leave order count peers : L
   abbrev key : ℕ → ℕ
   key m = (link job m).to
 
-  pub want_sending : Sending next from delay (out_of cs leave) want.into
-  want_sending = into_sending job next from delay j want.into w.into w.sound w.rows cs leave order count w.beside
+  pub want_sending : Sending net board want.into
+  want_sending = into_sending job net j want.into w.into w.sound w.rows board w.beside
 
   -- the group of a node of the job
   want_group : (i : ℕ) → i < nodes job → (get_or want.nodes i no_node).group ≤ max_group
   want_group i p = subst (λ x. (get_or x i no_node).group ≤ max_group) (sym w.nodes_are) (w.sound.group_most i p)
 
-  -- the columns that a search reads
-  abbrev times : Copies
-  times = table [] cs.start cs.finish cs.set
-
   -- no clash with the entries on the copy's node, and none at all
-  free_all : (m : ℕ) (c : Copy) → c.node < nodes job → free_of times m c (spots_of order count c.node) ≡ free cs m c (2 * w.rows)
+  free_all : (m : ℕ) (c : Copy) → c.node < nodes job → free_of cs m c (spots_of board.layout.order board.layout.count c.node) ≡ free cs m c (2 * w.rows)
   unfolding free_of
   free_all m c p =
       ap (free_of cs m c) (w.beside.laid.is c.node (omega (arith, w.sound.nodes_most))) ∙ free_timeline cs m c.node (2 * w.rows) c refl
@@ -154,14 +154,14 @@ module _ (next from delay : List ℕ) (cs : Copies) (leave order count peers : L
       record { task = want.task; nodes = want.count; ready = ready; least = least; set = set; barred = barred }
 
   searched : (ready : Ready) (least set barred : ℕ) → least ≤ latest_input → ((n : ℕ) → ready_on ready n ≤ latest_input)
-      → Searched times order count (searching ready least set barred)
+      → Searched board (searching ready least set barred)
   searched ready least set barred p q =
       record {
         nodes_most = omega (arith, w.count_is, w.sound.nodes_most);
         run = λ n r. subst (λ t. get_or t.run n 0 ≤ max_time) (sym w.task_is) (w.sound.run_most j n w.task_of_lem (omega (arith, w.count_is)));
         deadline = subst (λ t. t.deadline ≤ max_time) (sym w.task_is) (w.sound.deadline_most j w.task_of_lem);
-        filled = λ n r. laid_filled _ _ order count _ w.beside.laid n r (omega (arith, w.beside.few));
-        rising = λ n r. laid_rising _ _ order count _ w.beside.laid n r;
+        filled = λ n r. laid_filled _ _ _ _ _ w.beside.laid n r (omega (arith, w.beside.few));
+        rising = λ n r. laid_rising _ _ _ _ _ w.beside.laid n r;
         ends = w.beside.soon;
         least = p;
         ready = q;
@@ -169,31 +169,31 @@ module _ (next from delay : List ℕ) (cs : Copies) (leave order count peers : L
 
   -- what it gave
   abbrev Gave : Search → Maybe Copy → Type 0
-  Gave s a = found_copy a ≡ best_of s.task.run (suc s.task.deadline) (fits times order count s) s.nodes
+  Gave s a = found_copy a ≡ best_of s.task.run (suc s.task.deadline) (fits board s) s.nodes
 
   gave : (s t : Search) → s ≡ t → t.task ≡ want.task → t.nodes ≡ want.count → (keeps : Copy → Bool)
-      → ((c : Copy) → c.node < nodes job → c.start < c.finish → fits times order count t c ≡ keeps c)
+      → ((c : Copy) → c.node < nodes job → c.start < c.finish → fits board t c ≡ keeps c)
       → (a : Maybe Copy) → Gave s a → found_copy a ≡ earliest job j keeps
   gave s t e u v keeps h a g =
-      subst (λ s. Gave s a) e g ∙ best_earliest job j _ _ (u ∙ w.task_is) (v ∙ w.count_is) (fits times order count t) keeps h
+      subst (λ s. Gave s a) e g ∙ best_earliest job j _ _ (u ∙ w.task_is) (v ∙ w.count_is) (fits board t) keeps h
 
   found : (keeps : Copy → Bool) (c : Copy) → earliest job j keeps ≡ some c → Found job c
   found keeps c e = best_found job j keeps c w.sound w.task_of_lem ((earliest_some job j keeps c).0 e)
 
   -- the inputs of a copy of this set
   abbrev Fed : ℕ → Ready → Type 0
-  Fed set r = Given next from delay (out_of cs leave) want.into set r
+  Fed set r = Given net board want.into set r
 
   fed_is : (set : ℕ) (r : Ready) → Fed set r → (c : Copy) (t : ℕ → Bool)
-      → ((m : ℕ) → m < links job → key m ≡ j → fed_by set c (sends job next cs m) ≡ t m)
+      → ((m : ℕ) → m < links job → key m ≡ j → fed_by set c (sends job net cs m) ≡ t m)
       → leb (ready_on r c.node) c.start ≡ every (links job) (λ m. eqb (key m) j implies t m)
   unfolding ◌implies◌
   fed_is set r given c t h =
       given.ready key j w.into.chain c
-      ∙ into_every job next from delay j want.into w.into _ (λ m h. rw (ne_eqb (key m) j h))
+      ∙ into_every job net j want.into w.into _ (λ m h. rw (ne_eqb (key m) j h))
       ∙ every_same (links job) _ _ (λ m b. split (eqb (key m) j)
       (λ e. let to = eqb-true (key m) j e in rw e (ap (fed_by set c)
-      (sends_is job next from delay j want.into w.into w.rows cs leave w.beside.leaving w.fed m b to) ∙ h m b to))
+      (sends_is job net j want.into w.into w.rows board w.beside.leaving w.fed m b to) ∙ h m b to))
       (λ e. rw e))
 
   -- the least start of the primary, whatever its inputs
@@ -209,8 +209,8 @@ module _ (next from delay : List ℕ) (cs : Copies) (leave order count peers : L
 
   -- the primary's search
   module _ (fed : Ready) (given : Fed 0 fed) (s : Search) (is_s : s ≡ primary_search want.task want.count fed want.least want.shut) where
-    pub primary_ready : Searched times order count s
-    primary_ready = subst (Searched times order count) (sym is_s) (searched fed soonest every_group want.shut soonest_most given.most)
+    pub primary_ready : Searched board s
+    primary_ready = subst (Searched board) (sym is_s) (searched fed soonest every_group want.shut soonest_most given.most)
 
     abbrev may : Copy → Bool
     may = primary_may job (primary_from want.least want.shut) w.rows (row_of cs) j
@@ -221,7 +221,7 @@ module _ (next from delay : List ℕ) (cs : Copies) (leave order count peers : L
     d_is c = fed_is 0 fed given c _ (λ m b e. rw (meets_none (set_at cs (2 * (link job m).from + 1))) (and_yes _ ∙ comes_is job (link job m) _ c))
 
     primary_fits : (c : Copy) → c.node < nodes job → c.start < c.finish
-        → fits times order count (primary_search want.task want.count fed want.least want.shut) c ≡ may c
+        → fits board (primary_search want.task want.count fed want.least want.shut) c ≡ may c
     unfolding fits node_ok free_from primary_keeps primary_from
     primary_fits c p q =
         ap (λ g. not (has want.shut c.node) and leb (max (ready_on fed c.node) soonest) c.start and g)
@@ -262,11 +262,11 @@ module _ (next from delay : List ℕ) (cs : Copies) (leave order count peers : L
         group_fits = want_group p.node p_found.node
 
         -- with this fault set
-        module _ (set : ℕ) (is_set : Faulted next from delay (out_of cs leave) want.into p group set) where
+        module _ (set : ℕ) (is_set : Faulted net board want.into p group set) where
           faults : has set ≡ fault_set job (row_of cs) j p
           unfolding domain
           faults =
-              into_faults job next from delay j want.into w.into w.rows cs leave w.beside.leaving w.fed p group set
+              into_faults job net j want.into w.into w.rows board w.beside.leaving w.fed p group set
               (ap (λ x. (get_or x p.node no_node).group) w.nodes_are) is_set
 
           abbrev the_row : Copy → Row
@@ -284,7 +284,7 @@ module _ (next from delay : List ℕ) (cs : Copies) (leave order count peers : L
           b_is b = ap (λ x. leb (p.finish + (get_or x p.node no_node).detect) b.start) w.nodes_are
 
           g_is : (b : Copy) → b.node < nodes job → b.start < b.finish
-              → free_of times set b (spots_of order count b.node) ≡ every w.rows (λ i. rule_g_backup job (row_of cs i) (the_row b))
+              → free_of cs set b (spots_of board.layout.order board.layout.count b.node) ≡ every w.rows (λ i. rule_g_backup job (row_of cs i) (the_row b))
           unfolding row
           g_is b on q =
               free_all set b on
@@ -294,8 +294,8 @@ module _ (next from delay : List ℕ) (cs : Copies) (leave order count peers : L
           -- and the backup's search, which the nodes in `barred` are kept from
           module _ (late : Ready) (more : Fed set late) (barred : ℕ) (bars : (i : ℕ) → has barred i ≡ joined 0 set peers i)
               (t : Search) (is_t : t ≡ backup_search want.task want.count late least set barred) where
-            pub backup_ready : Searched times order count t
-            backup_ready = subst (Searched times order count) (sym is_t) (searched late least set barred least_fits more.most)
+            pub backup_ready : Searched board t
+            backup_ready = subst (Searched board) (sym is_t) (searched late least set barred least_fits more.most)
 
             f_is : (b : Copy) → b.node < nodes job → not (has barred b.node) ≡ rule_f job (the_row b)
             unfolding rule_f row domain
@@ -311,7 +311,7 @@ module _ (next from delay : List ℕ) (cs : Copies) (leave order count peers : L
             e_is b = fed_is set late more b _ (λ m q e. backup_fed job cs w.rows w.beside.held set (the_row b) faults (link job m) _ (w.fed m q e))
 
             backup_fits : (b : Copy) → b.node < nodes job → b.start < b.finish
-                → fits times order count (backup_search want.task want.count late least set barred) b
+                → fits board (backup_search want.task want.count late least set barred) b
                 ≡ backup_keeps_beside job w.rows (row_of cs) j p b
             unfolding fits node_ok free_from backup_keeps
             backup_fits b on q =

@@ -10,21 +10,23 @@ use Rattle.copies.specs.Sets.{has}
 use Rattle.copies.specs.Arrival.{comes}
 use Rattle.copies.specs.Chain.{Chain}
 use Rattle.copies.specs.Table.{copy_count}
+use Rattle.planner.specs.declared.board.Board.{Board}
+use Rattle.planner.specs.declared.senders.Incoming.{Incoming}
 use Rattle.planner.specs.declared.senders.Sender.{Sender}
-use Rattle.planner.specs.Senders.{Results, sender_at}
+use Rattle.planner.specs.Senders.{sender_at}
 
 -- the link is weak, and q is in its sender's fault set
 abbrev pub carries_from : Copy → ℕ → Sender → Bool
 carries_from p q x = not (comes x.backup p) and has x.set q
 
-module _ (next from delay : List ℕ) (rs : Results) (last : ℕ) (p : Copy) where
+module _ (net : Incoming) (board : Board) (last : ℕ) (p : Copy) where
   -- by one of the first n links that lead to j
   abbrev pub carried_to : (ℕ → ℕ) → ℕ → ℕ → ℕ → Bool
-  carried_to key j n q = any n (λ m. eqb (key m) j and carries_from p q (sender_at next from delay rs m))
+  carried_to key j n q = any n (λ m. eqb (key m) j and carries_from p q (sender_at net board m))
 
   -- along the chain of links that begins at `last`, whatever task it leads to, and from the primary's group
   abbrev pub Faulted : ℕ → ℕ → Type 0
-  Faulted group set = (key : ℕ → ℕ) (j : ℕ) → Chain key next j last → (q : ℕ) → has set q ≡ (eqb group q or carried_to key j last q)
+  Faulted group set = (key : ℕ → ℕ) (j : ℕ) → Chain key net.next j last → (q : ℕ) → has set q ≡ (eqb group q or carried_to key j last q)
 
 -- the first n nodes are in groups
 pub record Groups (nodes : List Node) (n : ℕ) : Type 0 where

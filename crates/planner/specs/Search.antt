@@ -13,6 +13,7 @@ use Rattle.copies.specs.Table.{start_at, set_at}
 use Rattle.copies.specs.Layout.{all_pairs, base_of, spots_of}
 use Rattle.copies.specs.Laying.{Filled}
 use Rattle.copies.specs.Clash.{free_of}
+use Rattle.planner.specs.declared.board.Board.{Board}
 use Rattle.planner.specs.declared.inputs.Ready.{Ready}
 use Rattle.planner.specs.declared.search.Ask.{Ask}
 use Rattle.planner.specs.declared.search.Search.{Search}
@@ -70,9 +71,9 @@ unfoldable pub node_ok : Copies → ℕ → List ℕ → ℕ → ℕ → Copy �
 node_ok cs m l from barred c = not (has barred c.node) and free_from cs m l from c
 
 -- what a search asks of a copy, where the entries of each node stand in its spots
-unfoldable pub fits : Copies → List ℕ → List ℕ → Search → Copy → Bool
-fits cs order count search c =
-    node_ok cs search.set (spots_of order count c.node) (max (ready_on search.ready c.node) search.least) search.barred c
+unfoldable pub fits : Board → Search → Copy → Bool
+fits board search c =
+    node_ok board.copies search.set (spots_of board.layout.order board.layout.count c.node) (max (ready_on search.ready c.node) search.least) search.barred c
 
 -- the earliest start from s on of a copy of set m that runs so long: a sweep over entries in order of start, each of which, where the sets meet, is
 -- leapt over, up to the first that starts behind the copy's finish
@@ -99,20 +100,20 @@ abbrev pub Rising : Copies → List ℕ → Type 0
 Rising cs l = all_pairs (λ a b. leb (start_at cs.start a) (start_at cs.start b)) l ≡ true
 
 -- what a search on a node rests on
-pub record Asked (finish order : List ℕ) (ask : Ask) (from : ℕ) : Type 0 where
+pub record Asked (board : Board) (ask : Ask) (from : ℕ) : Type 0 where
   pub node : ask.node < max_nodes
-  pub filled : Filled order (base_of ask.node) (base_of ask.node + ask.count)
+  pub filled : Filled board.layout.order (base_of ask.node) (base_of ask.node + ask.count)
   pub run : ask.run ≤ max_time
   pub soon : from ≤ latest_input
-  pub ends : EndsSoon finish
+  pub ends : EndsSoon board.copies.finish
 
 -- and one on all nodes
-pub record Searched (cs : Copies) (order count : List ℕ) (search : Search) : Type 0 where
+pub record Searched (board : Board) (search : Search) : Type 0 where
   pub nodes_most : search.nodes ≤ max_nodes
   pub run : (n : ℕ) → n < search.nodes → get_or search.task.run n 0 ≤ max_time
   pub deadline : search.task.deadline ≤ max_time
-  pub filled : (n : ℕ) → n < max_nodes → Filled order (base_of n) (base_of n + get_or count n 0)
-  pub rising : (n : ℕ) → n < max_nodes → Rising cs (spots_of order count n)
-  pub ends : EndsSoon cs.finish
+  pub filled : (n : ℕ) → n < max_nodes → Filled board.layout.order (base_of n) (base_of n + get_or board.layout.count n 0)
+  pub rising : (n : ℕ) → n < max_nodes → Rising board.copies (spots_of board.layout.order board.layout.count n)
+  pub ends : EndsSoon board.copies.finish
   pub least : search.least ≤ latest_input
   pub ready : (n : ℕ) → ready_on search.ready n ≤ latest_input

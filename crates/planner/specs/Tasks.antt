@@ -18,26 +18,38 @@ use Rattle.rules.specs.Planner.{place_tasks, anywhere}
 use Rattle.copies.specs.declared.table.Copies.{Copies}
 use Rattle.copies.specs.Arrival.{leave_by, Leaving}
 use Rattle.copies.specs.Sets.{has, every_group}
-use Rattle.copies.specs.Table.{copy_count, node_at, entry, set_at, row_of, Whole, Held}
+use Rattle.copies.specs.Table.{copy_count, entry, set_at, row_of, empty_copies, Whole, Held}
 use Rattle.copies.specs.Layout.{Laid}
 use Rattle.planner.specs.declared.task.Want.{Want}
-use Rattle.planner.specs.declared.task.Pair.{Pair}
-use Rattle.planner.specs.Senders.{Net, Sent, Into, latest_input}
+use Rattle.planner.specs.declared.board.Board.{Board}
+use Rattle.planner.specs.declared.board.Pair.{Pair}
+use Rattle.planner.specs.declared.senders.Incoming.{Incoming}
+use Rattle.planner.specs.Senders.{Sent, Into, latest_input}
 use Rattle.planner.specs.Faults.{Peers}
 
 -- the primary's own test: it is on no node of the set `shut`, and starts no sooner than `least`
 unfoldable pub primary_from : ℕ → ℕ → Copy → Bool
 primary_from least shut p = not (has shut p.node) and leb least p.start
 
+-- the first k entries stand in order of time
+abbrev pub LaidTo : ℕ → Board → Type 0
+LaidTo k board = Laid board.copies.node board.copies.start k board.layout.order board.layout.count
+
+-- nothing is booked
+pub record Blank (board : Board) : Type 0 where
+  pub copies : board.copies ≡ empty_copies
+  pub leave : board.leave ≡ replicate copy_count 0
+  pub laid : (node start : List ℕ) → Laid node start 0 board.layout.order board.layout.count
+
 -- what is placed: the copies of the first m tasks, those of each node in order of time; no result leaves before its copy ends
-pub record Beside (job : Job) (m : ℕ) (cs : Copies) (leave order count : List ℕ) : Type 0 where
+pub record Beside (job : Job) (m : ℕ) (board : Board) : Type 0 where
   pub few : m ≤ max_tasks
-  pub held : Held job m cs
-  pub whole : Whole cs
-  pub soon : (k : ℕ) → get_or cs.finish k 0 ≤ max_start + max_time
-  pub laid : Laid cs.node cs.start (2 * m) order count
-  pub leaving : Leaving job (2 * m) cs leave
-  pub after : (k : ℕ) → get_or cs.finish k 0 ≤ get_or leave k 0
+  pub held : Held job m board.copies
+  pub whole : Whole board.copies
+  pub soon : (k : ℕ) → get_or board.copies.finish k 0 ≤ max_start + max_time
+  pub laid : LaidTo (2 * m) board
+  pub leaving : Leaving job (2 * m) board.copies board.leave
+  pub after : (k : ℕ) → get_or board.copies.finish k 0 ≤ get_or board.leave k 0
 
 -- what is wanted with the primary anywhere
 abbrev pub want_of : ℕ → Task → List Node → ℕ → ℕ → Want
@@ -45,7 +57,7 @@ want_of j task nodes count into = record { number = j; task = task; nodes = node
 
 -- what is wanted is a task of some job, whose links stand so by receiver and whose nodes by group, beside the first `rows` tasks; its senders are
 -- among them
-pub record Wanted (next from delay : List ℕ) (cs : Copies) (leave order count peers : List ℕ) (want : Want) : Type 0 where
+pub record Wanted (net : Incoming) (board : Board) (peers : List ℕ) (want : Want) : Type 0 where
   pub job : Job
   pub rows : ℕ
   pub sound : Sound job
@@ -53,11 +65,11 @@ pub record Wanted (next from delay : List ℕ) (cs : Copies) (leave order count 
   pub task_is : want.task ≡ task job want.number
   pub nodes_are : want.nodes ≡ job.nodes
   pub count_is : want.count ≡ nodes job
-  pub into : Into job next from delay want.number want.into
+  pub into : Into job net want.number want.into
   pub fed : (k : ℕ) → k < links job → (link job k).to ≡ want.number → (link job k).from < rows
   pub least_most : want.least ≤ latest_input
   pub peers_are : Peers want.nodes want.count peers
-  pub beside : Beside job rows cs leave order count
+  pub beside : Beside job rows board
 
 -- both copies as a row, or the refusal
 abbrev pub pair_row : Pair → Row
@@ -67,27 +79,23 @@ unfoldable pub attempted : Result Pair Refusal → Attempt Row
 attempted (Ok x) = placed (pair_row x)
 attempted (Err r) = refused r
 
--- the pair can be stored as task j, and is on nodes of a rack
-abbrev pub Bookable : Copies → ℕ → Pair → Type 0
-Bookable cs j x = Whole cs × (2 * j + 1 < copy_count)
-
+-- there is room for the pair as task j, and it is on nodes of a rack
 pub record OnRack (j : ℕ) (x : Pair) : Type 0 where
   pub room : 2 * j + 1 < copy_count
   pub primary : x.primary.node < max_nodes
   pub backup : x.backup.node < max_nodes
-
--- the entries of task j can be laid out behind those before it
-pub record Next (node start : List ℕ) (j : ℕ) (order count : List ℕ) : Type 0 where
-  pub room : 2 * j + 1 < copy_count
-  pub primary : node_at node (2 * j) < max_nodes
-  pub backup : node_at node (2 * j + 1) < max_nodes
-  pub laid : Laid node start (2 * j) order count
 
 -- when the results of both leave, on these nodes, can be noted, and is
 pub record Departing (nodes : List Node) (j : ℕ) (x : Pair) : Type 0 where
   pub on_rack : OnRack j x
   pub primary_fits : leave_by nodes x.primary < 4_294_967_296
   pub backup_fits : leave_by nodes x.backup < 4_294_967_296
+
+-- and the pair booked behind the tasks before it
+pub record Bookable (nodes : List Node) (j : ℕ) (x : Pair) (board : Board) : Type 0 where
+  pub whole : Whole board.copies
+  pub departing : Departing nodes j x
+  pub laid : LaidTo (2 * j) board
 
 abbrev pub departed : List Node → ℕ → Pair → List ℕ → List ℕ
 departed nodes j x leave = set (set leave (2 * j) (leave_by nodes x.primary)) (2 * j + 1) (leave_by nodes x.backup)
@@ -103,12 +111,12 @@ pub record Booked (j : ℕ) (x : Pair) (cs r : Copies) : Type 0 where
   pub other_set : (k : ℕ) → (k ≡ 2 * j → ⊥) → (k ≡ 2 * j + 1 → ⊥) → set_at r k ≡ set_at cs k
 
 -- after the first j tasks, with the job's links by receiver
-pub record Planning (job : Job) (net : Net) (j : ℕ) (cs : Copies) (leave order count : List ℕ) : Type 0 where
+pub record Planning (job : Job) (net : Incoming) (j : ℕ) (board : Board) : Type 0 where
   pub sound : Sound job
-  pub sent : Sent job.links (links job) net.last net.next net.from net.delay
+  pub sent : Sent job.links (links job) net
   pub within : j ≤ tasks job
-  pub is : place_tasks job anywhere j ≡ placed (row_of cs)
-  pub beside : Beside job j cs leave order count
+  pub is : place_tasks job anywhere j ≡ placed (row_of board.copies)
+  pub beside : Beside job j board
 
 -- the places of the first n tasks, whose copies have these nodes and starts, and the plan that has them
 abbrev pub place_at : List ℕ → List ℕ → ℕ → Place

@@ -1,12 +1,11 @@
 // When the inputs of a task are on each node.
 ghost use Rattle.std.specs.Prelude.{◌≡◌};
-ghost use Rattle.planner.specs.Senders.{results, Sending};
+ghost use Rattle.planner.specs.Senders.{Sending};
 ghost use Rattle.planner.specs.Inputs.{ready_on, farther_of, Reached, Owned, Given};
 
-use crate::senders::sender_at;
+use crate::board::Board;
+use crate::senders::Incoming;
 use copies::arrival::{arrival, pick};
-use copies::table::Copies;
-use reader::job::Job;
 
 // The latest arrival, where it is not on the node that it leaves; and that node.
 #[derive(Clone, Copy)]
@@ -42,90 +41,57 @@ pub fn farther(reach: Reach, from: u32, at: u32) -> Reach
     reach
 }
 
-// The latest arrival for a copy of this set, by the links whose chain begins at `last`. Each sender's primary counts, and its backup where
-// the two sets meet.
-pub fn farthest<'l, 'c>(
-    next: &'l [u32; Job::MAX_LINKS],
-    from: &'l [u32; Job::MAX_LINKS],
-    delay: &'l [u32; Job::MAX_LINKS],
-    node: &'c [u32; Copies::COUNT],
-    finish: &'c [u32; Copies::COUNT],
-    leave: &'c [u32; Copies::COUNT],
-    sets: &'c [u32; Copies::COUNT],
-    last: usize,
-    set: u32,
-) -> Reach
-    requires { Sending next.now from.now delay.now (results node.now finish.now leave.now sets.now) last }
-    ensures { Reached next.now from.now delay.now
-        (results node.now finish.now leave.now sets.now) last set result }
-{
-    let mut reach = Reach { at: 0, from: 0 };
-    let mut left = last;
-    // no index: the chain says which link is next
-    while left != 0 {
-        let x = sender_at(next, from, delay, node, finish, leave, sets, left - 1);
-        let p = x.primary;
-        let b = x.backup;
-        let half = farther(reach, p.node, p.away);
-        let late = pick(x.set & set != 0, b.away, 0);
-        reach = farther(half, b.node, late);
-        left = x.next;
+impl Incoming {
+    // The latest arrival for a copy of this set, by the links whose chain begins at `last`. Each sender's primary counts, and its backup where
+    // the two sets meet.
+    pub fn farthest(&self, board: &Board, last: usize, set: u32) -> Reach
+        requires { Sending self.now board.now last }
+        ensures { Reached self.now board.now last set result }
+    {
+        let mut reach = Reach { at: 0, from: 0 };
+        let mut left = last;
+        // no index: the chain says which link is next
+        while left != 0 {
+            let x = self.sender_at(board, left - 1);
+            let p = x.primary;
+            let b = x.backup;
+            let half = farther(reach, p.node, p.away);
+            let late = pick(x.set & set != 0, b.away, 0);
+            reach = farther(half, b.node, late);
+            left = x.next;
+        }
+        reach
     }
-    reach
-}
 
-// From when the same inputs are on node `to`.
-pub fn own_time<'l, 'c>(
-    next: &'l [u32; Job::MAX_LINKS],
-    from: &'l [u32; Job::MAX_LINKS],
-    delay: &'l [u32; Job::MAX_LINKS],
-    node: &'c [u32; Copies::COUNT],
-    finish: &'c [u32; Copies::COUNT],
-    leave: &'c [u32; Copies::COUNT],
-    sets: &'c [u32; Copies::COUNT],
-    last: usize,
-    set: u32,
-    to: u32,
-) -> u32
-    requires { Sending next.now from.now delay.now (results node.now finish.now leave.now sets.now) last }
-    ensures { Owned next.now from.now delay.now
-        (results node.now finish.now leave.now sets.now) last set to result }
-{
-    let mut own: u32 = 0;
-    let mut left = last;
-    // no index: the chain says which link is next
-    while left != 0 {
-        let x = sender_at(next, from, delay, node, finish, leave, sets, left - 1);
-        let half = own.max(arrival(x.primary, to));
-        let late = arrival(x.backup, to);
-        own = half.max(pick(x.set & set != 0, late, 0));
-        left = x.next;
+    // From when the same inputs are on node `to`.
+    pub fn own_time(&self, board: &Board, last: usize, set: u32, to: u32) -> u32
+        requires { Sending self.now board.now last }
+        ensures { Owned self.now board.now last set to result }
+    {
+        let mut own: u32 = 0;
+        let mut left = last;
+        // no index: the chain says which link is next
+        while left != 0 {
+            let x = self.sender_at(board, left - 1);
+            let half = own.max(arrival(x.primary, to));
+            let late = arrival(x.backup, to);
+            own = half.max(pick(x.set & set != 0, late, 0));
+            left = x.next;
+        }
+        own
     }
-    own
-}
 
-// For a copy of this set, from when its inputs are on each node.
-pub fn gather<'l, 'c>(
-    next: &'l [u32; Job::MAX_LINKS],
-    from: &'l [u32; Job::MAX_LINKS],
-    delay: &'l [u32; Job::MAX_LINKS],
-    node: &'c [u32; Copies::COUNT],
-    finish: &'c [u32; Copies::COUNT],
-    leave: &'c [u32; Copies::COUNT],
-    sets: &'c [u32; Copies::COUNT],
-    last: usize,
-    set: u32,
-) -> Ready
-    requires { Sending next.now from.now delay.now (results node.now finish.now leave.now sets.now) last }
-    ensures { Given next.now from.now delay.now
-        (results node.now finish.now leave.now sets.now) last set result }
-{
-    let far = farthest(next, from, delay, node, finish, leave, sets, last, set);
-    let to = far.from;
-    let own = own_time(next, from, delay, node, finish, leave, sets, last, set, to);
-    Ready {
-        node: to,
-        own,
-        all: far.at,
+    // For a copy of this set, from when its inputs are on each node.
+    pub fn gather(&self, board: &Board, last: usize, set: u32) -> Ready
+        requires { Sending self.now board.now last }
+        ensures { Given self.now board.now last set result }
+    {
+        let far = self.farthest(board, last, set);
+        let own = self.own_time(board, last, set, far.from);
+        Ready {
+            node: far.from,
+            own,
+            all: far.at,
+        }
     }
 }

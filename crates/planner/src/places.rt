@@ -47,22 +47,20 @@ pub fn backup_search(
 }
 
 // The plan of the first n tasks, whose copies have these nodes and starts.
-pub fn plan_of<'c>(
-    node: &'c [u32; Copies::COUNT],
-    start: &'c [u32; Copies::COUNT],
-    n: usize,
-) -> Plan
+pub fn plan_of(copies: &Copies, n: usize) -> Plan
     requires { n ≤ max_tasks }
-    ensures { result ≡ listed n (places_to node.now start.now n) }
+    ensures { result ≡ listed n (places_to copies.now.node copies.now.start n) }
 {
     let mut plan = Plan::empty();
     for j in 0..n {
         let k = 2 * j;
+        let primary = copies.at(k);
+        let backup = copies.at(k + 1);
         plan.places[j] = Place {
-            primary_node: node[k],
-            primary_start: start[k],
-            backup_node: node[k + 1],
-            backup_start: start[k + 1],
+            primary_node: primary.node,
+            primary_start: primary.start,
+            backup_node: backup.node,
+            backup_start: backup.start,
         };
     }
     plan.task_count = n as u32;

@@ -1,6 +1,0 @@
--- `planner::inputs::gather` meets its contract.
-use Rattle.planner.proofs.InputLaws.{given}
-use Rattle.planner.proofs.inputs.gather.Goals as goal
-
-pub returns : goal.returns
-returns c = given _ _ _ _ _ _ _ _ c.farthest-far.ensures c.own_time-own.ensures
