@@ -1,8 +1,11 @@
 -- Laws of a job's run times: in one row, in a job that has others, and as the bytes of a table.
-use Prim.Native.Nat.{ℕ, zero, suc, ◌+◌, ◌*◌, ◌/◌, ◌%◌, ◌≤◌, ◌<◌}
-use mathlib.Core.List.{List, [], ◌∷◌}
-use mathlib.Core.Path.{◌≡◌, refl, sym, ap, ap₂, ◌∙◌, subst}
-use lib.ListN.{get_or, set, length, replicate, length-set, length-replicate}
+use Prim.Native.Nat.{ℕ, zero, suc, ◌+◌, ◌-◌, ◌*◌, ◌≤◌, ◌<◌}
+use mathlib.Core.List.{List, [], ◌∷◌, ◌++◌}
+use mathlib.Core.Path.{◌≡◌, refl, sym, ap, ◌∙◌, subst}
+use lib.ListN.{get_or, set, length, replicate, take, drop, length-take, length-drop, length-replicate}
+use lib.Seq.{length-take-le}
+use Rattle.std.proofs.lemmas.List.{get_or-take, get_or_append_left, get_or-append_right}
+use borrow.Rule.Slice.PartMut.{put_mid, same_len_mid}
 use native.Mathlib.Nat.{mul-suc, mul-le-mul_left}
 use native.Mathlib.Numerals.{add-one}
 use native.Mathlib.Omega.{arith}
@@ -11,14 +14,15 @@ use Rattle.reader.specs.declared.job.Task.{Task}
 use Rattle.reader.specs.First.{fill}
 use Rattle.reader.specs.Limits.{max_nodes, max_tasks}
 use Rattle.reader.specs.Entries.{nodes, tasks, links, task, run, no_task, blank_task}
-use Rattle.reader.proofs.FillLaws.{fill_none, length_fill, filled_more, filled_at}
+use Rattle.reader.proofs.TestLaws.{below_suc}
+use Rattle.reader.proofs.FillLaws.{filled_more}
 use Rattle.writer.specs.Write.{flat}
 use Rattle.writer.specs.Puts.{Puts, Rows}
 use Rattle.writer.proofs.PutLaws.{puts_then, rows_none}
 use Rattle.replay.proofs.PackLaws.{length_flat}
 use Rattle.history.specs.Times.{or_else_run, table_numbers, table_length, renewed_task, renewed}
 use Rattle.history.specs.Window.{cell_count, cell_of}
-use Rattle.history.specs.Promise.{run_in, RunsTo, RowPut, row_time, table_time, new_task, Runs}
+use Rattle.history.specs.Promise.{row_time, table_time, new_task, Runs}
 
 -- `time_of`
 pub time_none : (seen run : ℕ) → seen ≡ 0 → run ≡ or_else_run seen run
@@ -30,56 +34,39 @@ unfolding or_else_run
 time_seen zero run h = absurd (h refl)
 time_seen (suc t) run h = refl
 
--- `put_row`: the first n run times of task j
-module _ (j : ℕ) (row before : List ℕ) where
-  pub row_start : length before ≡ cell_count → RowPut j row before 0 before
-  row_start size = record {
-    within = omega arith;
-    size = size;
-    puts = λ job e h. subst (λ k. RunsTo job k before) (let z : max_nodes * j ≡ max_nodes * j + 0 = omega arith in z) h;
-  }
+-- `runs_of`: a list has the run times of the first j tasks
+pub record RunsTo (job : Job) (j : ℕ) (runs : List ℕ) : Type 0 where
+  pub size : length runs ≡ cell_count
+  pub is : (i n : ℕ) → i < j → n < max_nodes → get_or runs (cell_of i n) 0 ≡ run job i n
 
-  pub row_more : (n : ℕ) (runs : List ℕ) → j < max_tasks → n < max_nodes → RowPut j row before n runs
-      → RowPut j row before (n + 1) (set runs (max_nodes * j + n) (get_or row n 0))
-  row_more n runs p q inv = record {
-    within = omega arith;
-    size = length-set runs (max_nodes * j + n) (get_or row n 0) ∙ inv.size;
-    puts = λ job e h.
-        let k = max_nodes * j + n in
-        let here : k / max_nodes ≡ j = omega arith in
-        let column : k % max_nodes ≡ n = omega arith in
-        let is : get_or row n 0 ≡ run_in job k = ap (λ l. get_or l n 0) (sym e) ∙ sym (ap₂ (run job) here column) in
-        record {
-          within = omega arith;
-          is =
-              filled_more (run_in job) (replicate cell_count 0) runs k (get_or row n 0) (inv.puts job e h).is is
-              ∙ ap (λ m. fill m (run_in job) (replicate cell_count 0)) (let z : k + 1 ≡ max_nodes * j + (n + 1) = omega arith in z);
-        };
-  }
-
-  pub row_end : (n : ℕ) (runs : List ℕ) → max_nodes ≤ n → RowPut j row before n runs → RowPut j row before max_nodes runs
-  row_end n runs h inv = subst (λ m. RowPut j row before m runs) (let z : n ≡ max_nodes = omega (arith, inv.within) in z) inv
-
--- `runs_of`
 module _ (job : Job) where
-  pub runs_start : RunsTo job (max_nodes * 0) (replicate cell_count 0)
-  runs_start = record { within = omega arith; is = fill_none (run_in job) (replicate cell_count 0) }
+  pub runs_start : RunsTo job 0 (replicate cell_count 0)
+  runs_start = record { size = length-replicate {A = ℕ} cell_count 0; is = λ i n p q. absurd (let z : ⊥ = omega arith in z) }
 
-  pub runs_size : (k : ℕ) (runs : List ℕ) → RunsTo job k runs → length runs ≡ cell_count
-  runs_size k runs inv = ap length inv.is ∙ length_fill (run_in job) (replicate cell_count 0) k ∙ length-replicate {A = ℕ} cell_count 0
+  -- those of one task more, copied behind them
+  pub runs_more : (j k : ℕ) (runs row : List ℕ) → j < max_tasks → k ≡ max_nodes → row ≡ (task job j).run
+      → length row ≡ length (take k (drop (max_nodes * j) runs)) → RunsTo job j runs → RunsTo job (j + 1) (put_mid (max_nodes * j) k runs row)
+  runs_more j k runs row h e same long inv =
+      let a = max_nodes * j in
+      let rest = row ++ drop k (drop a runs) in
+      let front : length (take a runs) ≡ a = length-take-le a runs (omega (arith, inv.size)) in
+      let size : length row ≡ max_nodes = long ∙ simp (length-take, length-drop) (omega (arith, inv.size)) in
+      record {
+        size = same_len_mid a k runs row long ∙ inv.size;
+        is = λ i n p q.
+            below_suc i j (rw add-one at p)
+            (λ lt.
+            get_or_append_left (take a runs) rest 0 (cell_of i n) (omega (arith, front))
+            ∙ get_or-take a runs (cell_of i n) 0 (omega arith) ∙ inv.is i n lt q)
+            (λ last.
+            get_or-append_right (take a runs) rest a (cell_of i n) 0 front (omega (arith, last))
+            ∙ ap (λ m. get_or rest m 0) (let z : cell_of i n - a ≡ n = omega (arith, last) in z)
+            ∙ get_or_append_left row _ 0 n (omega (arith, size))
+            ∙ ap (λ l. get_or l n 0) (same ∙ ap (λ m. (task job m).run) (sym last)));
+      }
 
-  pub runs_more : (j : ℕ) (runs after : List ℕ) → RunsTo job (max_nodes * j) runs → RowPut j (task job j).run runs max_nodes after
-      → RunsTo job (max_nodes * (j + 1)) after
-  runs_more j runs after inv put =
-      subst (λ k. RunsTo job k after) (let z : max_nodes * j + max_nodes ≡ max_nodes * (j + 1) = omega arith in z) (put.puts job refl inv)
-
-  pub runs_done : (j : ℕ) (runs : List ℕ) → max_tasks ≤ j → RunsTo job (max_nodes * j) runs → Runs job runs
-  runs_done j runs all inv = record {
-    is = λ i n p q.
-        let here : cell_of i n / max_nodes ≡ i = omega arith in
-        let column : cell_of i n % max_nodes ≡ n = omega arith in
-        filled_at (run_in job) cell_count 0 runs (max_nodes * j) (cell_of i n) 0 inv.is (omega arith) inv.within ∙ ap₂ (run job) here column;
-  }
+  pub runs_done : (j : ℕ) (runs : List ℕ) → max_tasks ≤ j → RunsTo job j runs → Runs job runs
+  runs_done j runs all inv = record { is = λ i n p q. inv.is i n (omega arith) q }
 
 -- `new_task`
 pub row_done : (p n : ℕ) (time : ℕ → ℕ) (t : Task) (run : List ℕ) → n ≡ p → run ≡ fill n time (replicate max_nodes 0)
@@ -135,16 +122,20 @@ module _ (job : Job) (before : List ℕ) (j : ℕ) (out : List ℕ) (at : ℕ) (
   pub table_room : j < tasks job → table_length job ≤ length before → at + 4 * nodes job ≤ length out
   table_room h room = omega (arith, mul-suc (nodes job) j, mul-le-mul_left (nodes job) h, inv.at_is, inv.puts.size)
 
-  pub table_more : (d : List ℕ) (end : ℕ) → j < tasks job → Rows (λ n. run job j n ∷ []) 4 out at (nodes job) d end
-      → TableTo job before (j + 1) d end
+  pub table_more : (d : List ℕ) (end : ℕ) → j < tasks job
+      → Rows (λ n. get_or (get_or (take (tasks job) job.tasks) j no_task).run n 0 ∷ []) 4 out at (nodes job) d end → TableTo job before (j + 1) d end
   unfolding flat
-  table_more d end h rows = record {
-    within = omega arith;
-    at_is =
-        let row : nodes job * (j + 1) ≡ nodes job * suc j = ap (λ m. nodes job * m) (add-one j) in
-        omega (arith, row, mul-suc (nodes job) j, inv.at_is, rows.puts.behind, length_row (nodes job) (run job j));
-    puts = rw add-one (puts_then inv.puts rows.puts);
-  }
+  table_more d end h taken =
+      let same = get_or-take (tasks job) job.tasks j no_task h in
+      let rows : Rows (λ n. run job j n ∷ []) 4 out at (nodes job) d end =
+      subst (λ t. Rows (λ n. get_or t.run n 0 ∷ []) 4 out at (nodes job) d end) same taken in
+      record {
+        within = omega arith;
+        at_is =
+            let row : nodes job * (j + 1) ≡ nodes job * suc j = ap (λ m. nodes job * m) (add-one j) in
+            omega (arith, row, mul-suc (nodes job) j, inv.at_is, rows.puts.behind, length_row (nodes job) (run job j));
+        puts = rw add-one (puts_then inv.puts rows.puts);
+      }
 
   pub table_done : tasks job ≤ j → Puts before 0 (table_numbers job (run job)) out (table_length job)
   unfolding table_numbers

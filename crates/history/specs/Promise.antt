@@ -1,9 +1,8 @@
 -- What the functions that read a log, and that renew a job, promise each other.
-use Rattle.std.specs.Prelude.{ℕ, ◌+◌, ◌*◌, ◌/◌, ◌%◌, ◌≤◌, ◌<◌, List, ◌≡◌, get_or, length, replicate}
+use Rattle.std.specs.Prelude.{ℕ, ◌<◌, List, ◌≡◌, get_or}
 use Rattle.reader.specs.declared.job.Job.{Job}
 use Rattle.reader.specs.declared.job.Task.{Task}
 use Rattle.reader.specs.Refusals.{Answer}
-use Rattle.reader.specs.First.{fill}
 use Rattle.reader.specs.Limits.{max_nodes, max_tasks}
 use Rattle.reader.specs.Entries.{nodes, tasks, task, run, no_task}
 use Rattle.reader.specs.Reads.{Reads}
@@ -11,26 +10,12 @@ use Rattle.history.specs.declared.window.Timing.{Timing}
 use Rattle.history.specs.declared.window.Window.{Window}
 use Rattle.history.specs.Log.{timing_at, timing_fault, records, record_at, log_fault}
 use Rattle.history.specs.Times.{or_else_run, renewed_task}
-use Rattle.history.specs.Window.{cell_count, cell_of}
+use Rattle.history.specs.Window.{cell_of}
 use Rattle.history.specs.Ring.{Formed, Holding}
 
 -- a list of a number for each cell has the job's run times
 pub record Runs (job : Job) (runs : List ℕ) : Type 0 where
   pub is : (j n : ℕ) → j < max_tasks → n < max_nodes → get_or runs (cell_of j n) 0 ≡ run job j n
-
--- the first k of them stand there
-abbrev pub run_in : Job → ℕ → ℕ
-run_in job k = run job (k / max_nodes) (k % max_nodes)
-
-pub record RunsTo (job : Job) (k : ℕ) (runs : List ℕ) : Type 0 where
-  pub within : k ≤ cell_count
-  pub is : runs ≡ fill k (run_in job) (replicate cell_count 0)
-
--- those of task j were put behind those of the tasks before it
-pub record RowPut (j : ℕ) (row before : List ℕ) (n : ℕ) (after : List ℕ) : Type 0 where
-  pub within : n ≤ max_nodes
-  pub size : length after ≡ cell_count
-  pub puts : (job : Job) → (task job j).run ≡ row → RunsTo job (max_nodes * j) before → RunsTo job (max_nodes * j + n) after
 
 -- of jobs of n tasks and p nodes, and of the run times in a row, the record at an offset
 abbrev pub OneRead : List ℕ → ℕ → ℕ → List ℕ → ℕ → Answer → Timing → Type 0

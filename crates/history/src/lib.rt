@@ -34,7 +34,7 @@ pub fn run_times(job: &[u8], log: &[u8], out: &mut [u8]) -> Answer
     let Answer::Done = bad_log else {
         return bad_log;
     };
-    put_table(out, new.job);
+    put_table(out, &new.job);
     Answer::Done
 }
 

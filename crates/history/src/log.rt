@@ -7,10 +7,9 @@ ghost use Rattle.reader.specs.Entries.{task as task_of};
 ghost use Rattle.reader.specs.Number.{fault_of, numbered, number_at};
 ghost use Rattle.reader.specs.Refusals.{answered};
 ghost use Rattle.reader.specs.PlanFile.{node_fault};
-ghost use Rattle.history.specs.Window.{window};
 ghost use Rattle.history.specs.Promise.{Runs, OneRead, AllRead};
 
-use crate::window::{Timing, Window, cell_of, push};
+use crate::window::{Timing, Window, cell_of};
 use reader::job::Job;
 use reader::number::{Number, field, handed_on};
 use reader::refusal::{Answer, Refusal};
@@ -94,43 +93,29 @@ fn read_timing(
     }
 }
 
-fn log_read(
-    answer: Answer,
-    cell: [u32; Window::SIZE],
-    ticks: [u32; Window::SIZE],
-    at: usize,
-) -> LogRead
-    ensures { (result.answer ≡ answer) × (result.window ≡ window cell ticks at) }
-{
-    LogRead {
-        answer,
-        window: Window { cell, ticks, at },
-    }
-}
-
 // The whole log, of any length: each record goes into the window as it is read. One that is cut short, behind the others, is refused.
 pub fn read_log(log: &[u8], tasks: usize, nodes: usize, runs: &[u32; Window::CELLS]) -> LogRead
     requires { (1 ≤ tasks) × (tasks ≤ max_tasks) × (1 ≤ nodes) × (nodes ≤ max_nodes) }
     ensures { AllRead log.now tasks nodes runs.now result.answer result.window }
 {
-    let mut cell = [0u32; Window::SIZE];
-    let mut ticks = [0u32; Window::SIZE];
-    let mut slot: usize = 0;
+    let mut window = Window::empty();
     let mut at: usize = 0;
     while at + Timing::LENGTH <= log.len() {
         let one = read_timing(log, at, tasks, nodes, runs);
         let answer = one.answer;
         let Answer::Done = answer else {
-            return log_read(answer, cell, ticks, slot);
+            return LogRead { answer, window };
         };
-        let x = one.timing;
-        slot = push(&mut cell, &mut ticks, slot, x);
+        window.take(one.timing);
         at += Timing::LENGTH;
     }
     if at < log.len() {
         let cut = read_timing(log, at, tasks, nodes, runs);
-        let refused = cut.answer;
-        return log_read(refused, cell, ticks, slot);
+        let answer = cut.answer;
+        return LogRead { answer, window };
     }
-    log_read(Answer::Done, cell, ticks, slot)
+    LogRead {
+        answer: Answer::Done,
+        window,
+    }
 }

@@ -3,9 +3,9 @@
 // The window is a ring: each record takes the slot of the one that leaves, which came so many records before it as the window holds. The largest ticks
 // are worked out in one pass over the slots when the table is asked for. So a log is read at the speed of its numbers, and where the largest leaves
 // nothing is left of it.
-ghost use Rattle.std.specs.Prelude.{◌≡◌, ◌<◌, max};
+ghost use Rattle.std.specs.Prelude.{◌≡◌, ◌<◌};
 ghost use Rattle.reader.specs.Limits.{max_nodes, max_tasks};
-ghost use Rattle.history.specs.Window.{cell_count, cell_of, window, empty_window, Seen};
+ghost use Rattle.history.specs.Window.{cell_count, cell_of, empty_window, Seen};
 ghost use Rattle.history.specs.Ring.{Formed, Takes};
 
 use reader::job::Job;
@@ -49,22 +49,15 @@ impl Window {
         }
     }
 
-    // With one record more.
-    pub fn take(self, x: Timing) -> Window
-        requires { Formed self × (x.task < max_tasks) × (x.node < max_nodes) }
-        ensures { Takes self x result }
+    // A record comes in at slot `at`, and the one that stood there leaves.
+    pub fn take(&mut self, x: Timing)
+        requires { Formed self.old × (x.task < max_tasks) × (x.node < max_nodes) }
+        ensures { Takes self.old x self.new }
     {
-        let mut cell = self.cell;
-        let mut ticks = self.ticks;
-        let at = push(&mut cell, &mut ticks, self.at, x);
-        Window { cell, ticks, at }
+        self.cell[self.at] = cell_of(x.task, x.node);
+        self.ticks[self.at] = x.ticks;
+        self.at = (self.at + 1) % Window::SIZE;
     }
-}
-
-fn larger(a: u32, b: u32) -> u32
-    ensures { result ≡ max a b }
-{
-    if a < b { b } else { a }
 }
 
 pub fn cell_of(task: u32, node: u32) -> u32
@@ -74,33 +67,15 @@ pub fn cell_of(task: u32, node: u32) -> u32
     (Job::MAX_NODES as u32) * task + node
 }
 
-// A record comes in at slot `at`, and the one that stood there leaves; gives the slot of the next. The window is lent by its parts: as a value it would
-// be copied for each record.
-pub fn push(
-    cell: &mut [u32; Window::SIZE],
-    ticks: &mut [u32; Window::SIZE],
-    at: usize,
-    x: Timing,
-) -> usize
-    requires { Formed (window cell.old ticks.old at) × (x.task < max_tasks) × (x.node < max_nodes) }
-    ensures { Takes (window cell.old ticks.old at) x (window cell.new ticks.new result) }
-{
-    cell[at] = cell_of(x.task, x.node);
-    ticks[at] = x.ticks;
-    (at + 1) % Window::SIZE
-}
-
 // The largest ticks of each cell, 0 where there is no record.
-pub fn largest(w: Window) -> [u32; Window::CELLS]
-    requires { Formed w }
-    ensures { Seen w result }
+pub fn largest(w: &Window) -> [u32; Window::CELLS]
+    requires { Formed w.now }
+    ensures { Seen w.now result }
 {
     let mut seen = [0u32; Window::CELLS];
-    let mut i: usize = 0;
-    while i < Window::SIZE {
+    for i in 0..Window::SIZE {
         let q = w.cell[i] as usize;
-        seen[q] = larger(seen[q], w.ticks[i]);
-        i += 1;
+        seen[q] = seen[q].max(w.ticks[i]);
     }
     seen
 }

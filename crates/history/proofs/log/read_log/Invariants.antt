@@ -1,12 +1,11 @@
 -- What the loop of `history::log::read_log` keeps, and what falls.
 use Prim.Native.Nat.{◌-◌}
 use lib.ListN.{length}
-use Rattle.history.specs.Window.{window}
 use Rattle.history.proofs.LogLaws.{LogTo}
 use Rattle.history.proofs.log.read_log.Given as goal
 
 abbrev pub invariant-loop-at : goal.invariant-loop-at
-invariant-loop-at l = LogTo l.log l.tasks l.nodes l.runs l.at (window l.cell l.ticks l.slot)
+invariant-loop-at l = LogTo l.log l.tasks l.nodes l.runs l.at l.window
 
 abbrev pub decreases-loop-at : goal.decreases-loop-at
 decreases-loop-at l = length l.log - l.at

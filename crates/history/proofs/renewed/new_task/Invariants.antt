@@ -1,5 +1,5 @@
--- What the loop of `history::renewed::new_task` keeps, and what falls.
-use Prim.Native.Nat.{◌-◌, ◌≤◌}
+-- What the loop of `history::renewed::new_task` keeps.
+use Prim.Native.Nat.{◌≤◌}
 use mathlib.Core.Path.{◌≡◌}
 use lib.ListN.{replicate}
 use Rattle.reader.specs.First.{fill}
@@ -9,6 +9,3 @@ use Rattle.history.proofs.renewed.new_task.Given as goal
 
 abbrev pub invariant-loop-n : goal.invariant-loop-n
 invariant-loop-n l = (l.n ≤ l.nodes) × (l.run ≡ fill l.n (row_time l.seen l.task.run l.j) (replicate max_nodes 0))
-
-abbrev pub decreases-loop-n : goal.decreases-loop-n
-decreases-loop-n l = l.nodes - l.n

@@ -1,5 +1,5 @@
--- What the loop of `history::renewed::new_tasks` keeps, and what falls.
-use Prim.Native.Nat.{◌-◌, ◌≤◌}
+-- What the loop of `history::renewed::new_tasks` keeps.
+use Prim.Native.Nat.{◌≤◌}
 use mathlib.Core.Path.{◌≡◌}
 use lib.ListN.{replicate}
 use Rattle.reader.specs.First.{fill}
@@ -10,6 +10,3 @@ use Rattle.history.proofs.renewed.new_tasks.Given as goal
 
 abbrev pub invariant-loop-j : goal.invariant-loop-j
 invariant-loop-j l = (l.j ≤ l.count) × (l.list ≡ fill l.j (new_task l.seen l.nodes l.tasks) (replicate max_tasks blank_task))
-
-abbrev pub decreases-loop-j : goal.decreases-loop-j
-decreases-loop-j l = l.count - l.j

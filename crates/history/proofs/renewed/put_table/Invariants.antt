@@ -1,10 +1,6 @@
--- What the loop of `history::renewed::put_table` keeps, and what falls.
-use Prim.Native.Nat.{◌-◌}
+-- What the loop of `history::renewed::put_table` keeps.
 use Rattle.history.proofs.TableLaws.{TableTo}
 use Rattle.history.proofs.renewed.put_table.Given as goal
 
-abbrev pub invariant-loop-j : goal.invariant-loop-j
-invariant-loop-j l = TableTo l.job l.initial.out l.j l.out l.at
-
-abbrev pub decreases-loop-j : goal.decreases-loop-j
-decreases-loop-j l = l.count - l.j
+abbrev pub invariant-loop-task : goal.invariant-loop-task
+invariant-loop-task l = TableTo l.job l.initial.out l.task-index l.out l.at

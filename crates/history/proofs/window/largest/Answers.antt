@@ -22,7 +22,7 @@ pub bounds-seen-q-in-loop-i : goal.bounds-seen-q-in-loop-i
 bounds-seen-q-in-loop-i c = omega (arith, c.requires.cells c.loop-i.i, c.loop-i.invariant.size)
 
 pub loop-i-preserved : goal.loop-i-preserved
-loop-i-preserved c = seen_more _ _ _ _ c.larger.ensures c.requires c.loop-i-test.true c.loop-i.invariant
+loop-i-preserved c = seen_more _ _ _ _ c.max.ensures c.requires c.loop-i-test.true c.loop-i.invariant
 
 pub returns : goal.returns
 returns c = seen_done _ _ _ (omega arith) c.loop-i.invariant
