@@ -6,8 +6,7 @@ use mathlib.Core.List.{List, [], ◌∷◌, ◌++◌, append_assoc, append-nil}
 use lib.ListN.{length, get_or, take, drop, length-append, length-take, length-drop, take-append-drop, drop_of_length-le}
 use lib.Seq.{take-append_seam, take_all, length-take-le, drop-append-add, drop-drop}
 use borrow.Rule.Slice.PartMut.{put_mid}
-use Rattle.std.specs.List.{flat_map}
-use Rattle.std.proofs.lemmas.List.{take_more, flat_map_more}
+use Rattle.std.proofs.lemmas.List.{get_or-take, get_or_read}
 use native.Mathlib.Numerals.{add-one}
 use native.Mathlib.Nat.{add-zero, zero-add, suc-add, mul-le-mul_right}
 use native.Mathlib.Omega.{arith}
@@ -17,7 +16,7 @@ use Rattle.reader.specs.Limits.{max_nodes, max_tasks, max_links, max_job_length}
 use Rattle.reader.specs.JobFile.{job_length}
 use Rattle.reader.proofs.LengthLaws.{job_length_most}
 use Rattle.writer.specs.Write.{splice, pack, flat}
-use Rattle.writer.specs.Puts.{Puts, Rows, EachPut}
+use Rattle.writer.specs.Puts.{Puts, Rows}
 
 pub splice_none : (d : List ℕ) (at : ℕ) → splice d at [] ≡ d
 unfolding splice
@@ -107,50 +106,7 @@ put_size {d} {vs} {b} {n} p h = sym (length-take-le n b (omega arith))
 pub puts_end : {d vs e : List ℕ} {at k w : ℕ} → 4 * length vs ≡ w → Puts d at vs e k → k ≡ at + w
 puts_end h p = omega (arith, p.behind)
 
--- the first n rows: their bytes, and their numbers by the rows' numbers
-pub bytes_of : {T : Type 0} (w : ℕ) (rows : List T) (n : ℕ) → n ≤ length rows → length (take n rows) * w ≡ n * w
-bytes_of w rows n h = ap (λ k. k * w) (length-take-le n rows h)
-
-flat_of : {T : Type 0} (f : T → List ℕ) (rows : List T) (z : T) (n : ℕ) → n ≤ length rows →
-    flat_map f (take n rows) ≡ flat n (λ i. f (get_or rows i z))
-unfolding flat
-flat_of f rows z zero h = refl
-flat_of f rows z (suc n) h =
-    let one_more : take (suc n) rows ≡ take n rows ++ (get_or rows n z ∷ []) = rw add-one at (take_more rows n z (omega arith)) in
-    ap (flat_map f) one_more ∙ sym (flat_map_more f [] (take n rows) (get_or rows n z))
-    ∙ ap (λ vs. vs ++ f (get_or rows n z)) (flat_of f rows z n (omega arith))
-
--- rows one behind the other: none, one more, and the room for it
-module _ {T : Type 0} {f : T → List ℕ} {w : ℕ} where
-  pub each_none : (d : List ℕ) (at : ℕ) → EachPut f w d at [] d at
-  unfolding pack
-  each_none d at = record {
-    puts = record { buffer = sym (splice_none d at); size = refl; behind = omega arith };
-    most = omega arith;
-  }
-
-  pub each_more : (rows : List T) (i : ℕ) (x : T) {d e g : List ℕ} {at k m : ℕ} → EachPut f w d at (take i rows) e k →
-      i < length rows → x ≡ get_or rows i x → Puts e k (f x) g m → m ≤ k + w → EachPut f w d at (take (i + 1) rows) g m
-  each_more rows i x {d} {e} {g} {at} {k} {m} p h is q room =
-      let one_more : take (i + 1) rows ≡ take i rows ++ (x ∷ []) = take_more rows i x h ∙ ap (λ y. take i rows ++ (y ∷ [])) (sym is) in
-      record {
-        puts = subst (λ vs. Puts d at vs g m) (flat_map_more f [] (take i rows) x ∙ ap (flat_map f) (sym one_more)) (puts_then p.puts q);
-        most = omega (arith, p.most, bytes_of w rows i (omega arith), bytes_of w rows (i + 1) (omega arith));
-      }
-
-  pub each_room : (rows : List T) (i : ℕ) {d e : List ℕ} {at k : ℕ} → EachPut f w d at (take i rows) e k →
-      i < length rows → at + length rows * w ≤ length d → k + w ≤ length e
-  each_room rows i p h room = omega (arith, p.most, p.puts.size, bytes_of w rows i (omega arith), mul-le-mul_right w h)
-
-  -- the same rows by number
-  pub each_rows : (rows : List T) (z : T) {n : ℕ} {d e : List ℕ} {at k : ℕ} → n ≤ length rows → EachPut f w d at (take n rows) e k →
-      Rows (λ i. f (get_or rows i z)) w d at n e k
-  each_rows rows z {n} {d} {e} {at} {k} h p = record {
-    puts = subst (λ vs. Puts d at vs e k) (flat_of f rows z n h) p.puts;
-    most = omega (arith, p.most, bytes_of w rows n h);
-  }
-
--- a loop that puts rows by number: before it, and one turn
+-- a loop that puts rows: before it, and one turn
 pub rows_none : {row : ℕ → List ℕ} {w : ℕ} (d : List ℕ) (at : ℕ) → Rows row w d at 0 d at
 unfolding flat pack
 rows_none d at = record {
@@ -165,6 +121,22 @@ rows_more {row} {w} {i} p q h = record {
   puts = rw add-one (puts_then p.puts q);
   most = omega arith;
 }
+
+-- such a turn, of rows of a list
+pub rows_next : {T : Type 0} (f : T → List ℕ) (rows : List T) (none x : T) {w i : ℕ} {d e g : List ℕ} {at k m : ℕ} →
+    Rows (λ i. f (get_or rows i none)) w d at i e k → x ≡ get_or rows i none → Puts e k (f x) g m → m ≤ k + w →
+    Rows (λ i. f (get_or rows i none)) w d at (i + 1) g m
+rows_next f rows none x {w} {i} {d} {e} {g} {at} {k} {m} p is q h = rows_more p (subst (λ y. Puts e k (f y) g m) is q) h
+
+-- there is room for the next of n rows where there is room for all
+pub row_room : {row : ℕ → List ℕ} {w i : ℕ} {d e : List ℕ} {at k : ℕ} (n : ℕ) →
+    Rows row w d at i e k → i < n → at + n * w ≤ length d → k + w ≤ length e
+row_room {row} {w} {i} n p h room = omega (arith, p.most, p.puts.size, mul-le-mul_right w h)
+
+-- an item of the first n rows, by its number
+pub item_is : {T : Type 0} (n i : ℕ) (rows : List T) (x : T) → i < length (take n rows) → x ≡ get_or (take n rows) i x → i < n
+    → (none : T) → x ≡ get_or rows i none
+item_is n i rows x h e b none = get_or_read (take n rows) i x h e none ∙ get_or-take n rows i none b
 
 -- counts clipped to their arrays leave room for the longest job
 pub job_room : (v a b c : ℕ) {p n m : ℕ} → p ≡ min a max_nodes → n ≡ min b max_tasks → m ≡ min c max_links

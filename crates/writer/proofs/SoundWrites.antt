@@ -20,7 +20,8 @@ use Rattle.reader.proofs.Accepted.{plan_good}
 use Rattle.reader.proofs.FillLaws.{fill_get, fill_same}
 use Rattle.reader.proofs.EntryLaws.{place_at_lem}
 use Rattle.reader.proofs.LengthLaws.{plan_length_lem}
-use Rattle.reader.proofs.Promise.{job_done}
+use Rattle.reader.proofs.RefusalLaws.{resulted_none, resulted_value}
+use Rattle.reader.proofs.Promise.{job_sound}
 use Rattle.writer.proofs.RoundTrip.{job_written_back, plan_read_back}
 use Rattle.writer.proofs.WordLaws.{plan_words}
 use Rattle.writer.proofs.SoundReads.{sound_job_reads, sound_plan_reads}
@@ -34,23 +35,24 @@ pub sound_plan_length : (job : Job) (plan : Plan) → Sound job → PlanSound jo
 sound_plan_length job plan h g = plan_length_lem (plan_bytes plan) job (plan_good (plan_bytes plan) job (sound_plan_reads job plan h g))
 
 -- a job that was read is the job in its own bytes
-pub job_again : (f : List ℕ) → Bytes f → (read_job f).answer ≡ Ok tt → job_at (job_bytes (read_job f).job) ≡ (read_job f).job
-job_again f b d =
-    let j = job_done f d in
-    ap (λ job. job_at (job_bytes job)) j.job ∙ ap job_at (job_written_back f b j.fault) ∙ sym j.job
+pub job_again : (f : List ℕ) (job : Job) → Bytes f → read_job f ≡ Ok job → job_at (job_bytes job) ≡ job
+unfolding read_job
+job_again f job b d =
+    let is : job ≡ job_at f = resulted_value _ _ d in
+    ap (λ x. job_at (job_bytes x)) is ∙ ap job_at (job_written_back f b (resulted_none _ _ d)) ∙ sym is
 
-pub sound_plan_written : (f : List ℕ) (plan : Plan) (out : List ℕ) → Bytes f → (read_job f).answer ≡ Ok tt → PlanSound (read_job f).job plan →
-    write_plan_fault (read_job f).job plan out ≡ room_fault out (plan_length (tasks (read_job f).job))
-unfolding write_plan_fault ◌or_else◌
-sound_plan_written f plan out b d g =
-    let h = (job_done f d).sound in
-    rw (sound_job_reads (read_job f).job h, job_again f b d, sound_plan_reads (read_job f).job plan h g, ← sound_plan_length (read_job f).job plan h g)
+pub sound_plan_written : (f : List ℕ) (job : Job) (plan : Plan) (out : List ℕ) → Bytes f → read_job f ≡ Ok job → PlanSound job plan →
+    write_plan_fault job plan out ≡ room_fault out (plan_length (tasks job))
+unfolding read_job write_plan_fault ◌or_else◌
+sound_plan_written f job plan out b d g =
+    let h : Sound job = rw (resulted_value _ _ d) (job_sound f (resulted_none _ _ d)) in
+    rw (sound_job_reads job h, job_again f job b d, sound_plan_reads job plan h g, ← sound_plan_length job plan h g)
 
 pub sound_plan_reread : (job : Job) (plan : Plan) → Sound job → PlanSound job plan → PlanIn (plan_bytes plan) job plan
 unfolding read_plan
 sound_plan_reread job plan h g =
     let e = sound_plan_reads job plan h g in
-    record { answer = rw e; same = rw e (plan_read_back plan job h (plan_words job h plan g) e) }
+    record { back = plan_at (plan_bytes plan) (tasks job); reads = rw e; same = plan_read_back plan job h (plan_words job h plan g) e }
 
 -- where nothing stands behind the counted places, what is read back is the plan itself
 filled_plan : (s : List ℕ) (plan : Plan) (n : ℕ) (f : ℕ → Place) → n ≤ max_tasks → n ≡ plan.task_count →
@@ -64,10 +66,13 @@ filled_plan s plan n f m c e same =
     ap₂ (λ v k. record { version = v; task_count = k; places = places_at s n }) same.version same.task_count_is
     ∙ ap (λ l. record { version = plan.version; task_count = plan.task_count; places = l }) places
 
-pub filled_plan_reread : (job : Job) (plan : Plan) (f : ℕ → Place) → Sound job → PlanSound job plan →
-    plan.places ≡ fill (tasks job) f (replicate max_tasks no_place) →
-    (read_plan (plan_bytes plan) job).plan ≡ plan
-unfolding read_plan
-filled_plan_reread job plan f h g e =
-    let ok = sound_plan_reads job plan h g in
-    rw ok (filled_plan (plan_bytes plan) plan (tasks job) f h.tasks_most (sym g.count) e (plan_read_back plan job h (plan_words job h plan g) ok))
+module _ (job : Job) (plan : Plan) (f : ℕ → Place) (h : Sound job) (g : PlanSound job plan)
+    (e : plan.places ≡ fill (tasks job) f (replicate max_tasks no_place)) where
+  pub filled_plan_again : plan_at (plan_bytes plan) (tasks job) ≡ plan
+  filled_plan_again =
+      let ok = sound_plan_reads job plan h g in
+      filled_plan (plan_bytes plan) plan (tasks job) f h.tasks_most (sym g.count) e (plan_read_back plan job h (plan_words job h plan g) ok)
+
+  pub filled_plan_reread : read_plan (plan_bytes plan) job ≡ Ok plan
+  unfolding read_plan
+  filled_plan_reread = rw (sound_plan_reads job plan h g, filled_plan_again)

@@ -1,9 +1,8 @@
 -- 'Two jobs or plans are equal if version, counts and counted entries are; what a value holds beyond its counts is no part of it.' Of an entry
 -- those numbers count that its version writes: (ii) 'A field that a job's version lacks is no part of the job'.
-use Rattle.std.specs.Prelude.{ℕ, ◌<◌, List, ◌≡◌}
+use Rattle.std.specs.Prelude.{ℕ, ◌<◌, List, ◌≡◌, Ok}
 use Rattle.reader.specs.declared.job.Job.{Job}
 use Rattle.reader.specs.declared.plan.Plan.{Plan}
-use Rattle.std.specs.Prelude.{Ok}
 use Rattle.reader.specs.Entries.{nodes, tasks, links, node, task, link, place}
 use Rattle.reader.specs.JobFile.{read_job}
 use Rattle.reader.specs.PlanFile.{read_plan}
@@ -25,9 +24,11 @@ pub record SamePlan (a b : Plan) : Type 0 where
 
 -- s reads well, as the same job; or, after its job, as the same plan
 pub record JobIn (s : List ℕ) (job : Job) : Type 0 where
-  pub answer : (read_job s).answer ≡ Ok tt
-  pub same : SameJob (read_job s).job job
+  pub back : Job
+  pub reads : read_job s ≡ Ok back
+  pub same : SameJob back job
 
 pub record PlanIn (s : List ℕ) (job : Job) (plan : Plan) : Type 0 where
-  pub answer : (read_plan s job).answer ≡ Ok tt
-  pub same : SamePlan (read_plan s job).plan plan
+  pub back : Plan
+  pub reads : read_plan s job ≡ Ok back
+  pub same : SamePlan back plan

@@ -1,6 +1,5 @@
 -- What the functions that put numbers into a buffer promise.
 use Rattle.std.specs.Prelude.{ℕ, ◌+◌, ◌*◌, ◌≤◌, ◌≡◌, List, length}
-use Rattle.std.specs.List.{flat_map}
 use Rattle.writer.specs.Write.{splice, pack, flat}
 
 -- numbers stand in the buffer from an offset; the offset behind them
@@ -13,9 +12,3 @@ pub record Puts (before : List ℕ) (at : ℕ) (numbers after : List ℕ) (end :
 pub record Rows (row : ℕ → List ℕ) (width : ℕ) (before : List ℕ) (at n : ℕ) (after : List ℕ) (end : ℕ) : Type 0 where
   pub puts : Puts before at (flat n row) after end
   pub most : end ≤ at + n * width
-
--- so do the numbers of each of these rows
-pub record EachPut {T : Type 0} (numbers : T → List ℕ) (width : ℕ) (before : List ℕ) (at : ℕ) (rows : List T)
-    (after : List ℕ) (end : ℕ) : Type 0 where
-  pub puts : Puts before at (flat_map numbers rows) after end
-  pub most : end ≤ at + length rows * width

@@ -1,5 +1,5 @@
 -- Writing: the bytes of a job and of a plan, and what a writer does to a buffer.
-use Rattle.std.specs.Prelude.{ℕ, zero, suc, ◌+◌, min, List, [], ◌∷◌, ◌++◌, leb, length, get_or, take, drop}
+use Rattle.std.specs.Prelude.{ℕ, zero, suc, ◌+◌, min, List, [], ◌∷◌, ◌++◌, leb, length, get_or, take, drop, Ok}
 use Rattle.std.proofs.Math.Option.{Option, none, some}
 use Rattle.reader.specs.declared.job.Job.{Job}
 use Rattle.reader.specs.declared.job.Node.{Node}
@@ -9,14 +9,12 @@ use Rattle.reader.specs.declared.plan.Place.{Place}
 use Rattle.reader.specs.declared.plan.Plan.{Plan}
 use Rattle.reader.specs.declared.refusal.Refusal.{Refusal}
 use Rattle.reader.specs.declared.refusal.Refusal.TheVariants.{ShortBuffer}
-use Rattle.reader.specs.Refusals.{Answer}
-use Rattle.std.specs.Prelude.{Ok}
 use Rattle.reader.specs.First.{◌or_else◌, unless}
 use Rattle.reader.specs.Limits.{max_nodes, max_tasks, max_links}
 use Rattle.reader.specs.Entries.{nodes, tasks, links, node, task, link, place}
 use Rattle.reader.specs.Number.{bytes}
 use Rattle.reader.specs.Fields.{node_fields, task_fields, node_values, task_values, held}
-use Rattle.reader.specs.Refusals.{answered}
+use Rattle.reader.specs.Refusals.{Answer, answered}
 use Rattle.reader.specs.JobFile.{job_fault, job_at}
 use Rattle.reader.specs.PlanFile.{plan_fault}
 

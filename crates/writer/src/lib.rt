@@ -1,7 +1,7 @@
 // Writing a job file, and a plan file after its job.
 #![tactic(auto)]
 
-ghost use Rattle.std.specs.Prelude.{◌≡◌, ℕ, List, [], ◌∷◌, ◌+◌, ◌*◌, ◌≤◌, min, length, get_or};
+ghost use Rattle.std.specs.Prelude.{◌≡◌, ℕ, List, [], ◌∷◌, ◌+◌, ◌*◌, ◌≤◌, min, length, get_or, OnOk};
 ghost use Rattle.reader.specs.Limits.{max_nodes, max_tasks, max_job_length, max_plan_length};
 ghost use Rattle.reader.specs.Fields.{width_if, held_if};
 ghost use Rattle.reader.specs.JobFile.{node_width, task_width};
@@ -9,13 +9,14 @@ ghost use Rattle.reader.specs.PlanFile.{plan_length};
 ghost use Rattle.writer.specs.Write.{splice, node_numbers, task_numbers, link_numbers, place_numbers, job_numbers, plan_numbers};
 ghost use Rattle.writer.specs.Write.{room_fault, writes, write_job, write_plan};
 ghost use Rattle.reader.specs.Number.{bytes};
-ghost use Rattle.writer.specs.Puts.{Puts, Rows, EachPut};
+ghost use Rattle.reader.specs.Refusals.{answered};
+ghost use Rattle.writer.specs.Puts.{Puts, Rows};
 
 use reader::job::{Job, Link, Node, Task};
 use reader::job_file::read_job;
 use reader::plan::{Place, Plan};
 use reader::plan_file::read_plan;
-use reader::refusal::{Answer, Refusal};
+use reader::refusal::Refusal;
 
 // Puts a number at an offset.
 pub fn put_number(d: &mut [u8], at: usize, v: u32)
@@ -56,13 +57,19 @@ pub trait Entry {
         ensures most { result ≤ at + width form };
 }
 
-// Rows, one behind the other, from an offset.
-fn put_rows<T: Entry>(d: &mut [u8], from: usize, form: T::Form, rows: &[T]) -> usize
-    requires { from + length rows.now * T.width form ≤ length d.old }
-    ensures { EachPut (T.numbers form) (T.width form) d.old from rows.now d.new result }
+// The first rows of an array, one behind the other, from an offset.
+fn put_rows<T: Entry, const N: usize>(
+    d: &mut [u8],
+    from: usize,
+    form: T::Form,
+    count: usize,
+    rows: &[T; N],
+) -> usize
+    requires { (count ≤ N) × (from + count * T.width form ≤ length d.old) }
+    ensures { (none : _) → Rows (λ i. T.numbers form (get_or rows.now i none)) (T.width form) d.old from count d.new result }
 {
     let mut at = from;
-    for x in rows {
+    for x in &rows[..count] {
         at = x.put(d, at, form);
     }
     at
@@ -153,7 +160,7 @@ pub fn put_run(d: &mut [u8], from: usize, count: usize, run: &[u32; Job::MAX_NOD
     requires { (count ≤ max_nodes) × (from + 4 * count ≤ length d.old) }
     ensures { Rows (λ i. get_or run.now i 0 ∷ []) 4 d.old from count d.new result }
 {
-    put_rows(d, from, (), &run[..count])
+    put_rows(d, from, (), count, run)
 }
 
 // A count, or the length of the array that it counts.
@@ -164,9 +171,9 @@ fn clip(count: u32, most: usize) -> usize
 }
 
 // A job's numbers, from the buffer's front.
-pub fn put_job(d: &mut [u8], job: Job) -> usize
+pub fn put_job(d: &mut [u8], job: &Job) -> usize
     requires { max_job_length ≤ length d.old }
-    ensures { (result ≤ max_job_length) × Puts d.old 0 (job_numbers job) d.new result }
+    ensures { (result ≤ max_job_length) × Puts d.old 0 (job_numbers job.now) d.new result }
 {
     let p = clip(job.node_count, Job::MAX_NODES);
     let n = clip(job.task_count, Job::MAX_TASKS);
@@ -175,70 +182,65 @@ pub fn put_job(d: &mut [u8], job: Job) -> usize
     let form = TaskForm { version, nodes: p };
     let mut at = put(d, 0, job.version);
     at = put(d, at, job.node_count);
-    at = put_rows(d, at, version, &job.nodes[..p]);
+    at = put_rows(d, at, version, p, &job.nodes);
     at = put(d, at, job.task_count);
-    at = put_rows(d, at, form, &job.tasks[..n]);
+    at = put_rows(d, at, form, n, &job.tasks);
     at = put(d, at, job.link_count);
-    put_rows(d, at, (), &job.links[..m])
+    put_rows(d, at, (), m, &job.links)
 }
 
 // A plan's numbers, from the buffer's front.
-pub fn put_plan(d: &mut [u8], plan: Plan) -> usize
-    requires { plan_length (min plan.task_count max_tasks) ≤ length d.old }
-    ensures { (result ≤ max_plan_length) × Puts d.old 0 (plan_numbers plan) d.new result }
+pub fn put_plan(d: &mut [u8], plan: &Plan) -> usize
+    requires { plan_length (min plan.now.task_count max_tasks) ≤ length d.old }
+    ensures { (result ≤ max_plan_length) × Puts d.old 0 (plan_numbers plan.now) d.new result }
 {
     let n = clip(plan.task_count, Job::MAX_TASKS);
     let mut at = put(d, 0, plan.version);
     at = put(d, at, plan.task_count);
-    put_rows(d, at, (), &plan.places[..n])
+    put_rows(d, at, (), n, &plan.places)
+}
+
+// Room for so many bytes, or refused.
+pub fn room(out: &[u8], n: usize) -> Result<(), Refusal>
+    ensures answer { result ≡ answered (room_fault out.now n) }
+    ensures fits { OnOk result (n ≤ length out.now) }
+{
+    if out.len() < n {
+        return Err(Refusal::ShortBuffer(n));
+    }
+    Ok(())
 }
 
 // A writer's last step: refused for want of room, else the file stands at the buffer's front.
-pub fn send(file: &[u8], out: &mut [u8]) -> Answer
+pub fn send(file: &[u8], out: &mut [u8]) -> Result<(), Refusal>
     ensures { writes (room_fault out.old (length file.now)) file.now out.old
         ≡ record { answer = result; buffer = out.new } }
 {
-    let n = file.len();
-    if out.len() < n {
-        return Answer::Refused(Refusal::ShortBuffer(n));
-    }
-    out[..n].copy_from_slice(file);
-    Answer::Done
+    room(out, file.len())?;
+    out[..file.len()].copy_from_slice(file);
+    Ok(())
 }
 
 // Writes a job: refused as the reader would refuse its bytes, then for want of room.
-pub fn write_job(job: Job, out: &mut [u8]) -> Answer
-    ensures { write_job job out.old ≡ record { answer = result; buffer = out.new } }
+pub fn write_job(job: &Job, out: &mut [u8]) -> Result<(), Refusal>
+    ensures { write_job job.now out.old ≡ record { answer = result; buffer = out.new } }
 {
     let mut scratch = [0u8; Job::MAX_LENGTH];
     let len = put_job(&mut scratch, job);
     let file = &scratch[..len];
-    let back = read_job(file);
-    let answer = back.answer;
-    let Answer::Done = answer else {
-        return answer;
-    };
+    read_job(file)?;
     send(file, out)
 }
 
 // Writes a plan after its job: refused as the reader would refuse the job's bytes, then the plan's, then for want of room.
-pub fn write_plan(job: Job, plan: Plan, out: &mut [u8]) -> Answer
-    ensures { write_plan job plan out.old ≡ record { answer = result; buffer = out.new } }
+pub fn write_plan(job: &Job, plan: &Plan, out: &mut [u8]) -> Result<(), Refusal>
+    ensures { write_plan job.now plan.now out.old ≡ record { answer = result; buffer = out.new } }
 {
     let mut scratch = [0u8; Job::MAX_LENGTH];
     let len = put_job(&mut scratch, job);
-    let back = read_job(&scratch[..len]);
-    let job_answer = back.answer;
-    let Answer::Done = job_answer else {
-        return job_answer;
-    };
-    let job_back = back.job;
+    let back = read_job(&scratch[..len])?;
     let plan_len = put_plan(&mut scratch, plan);
     let file = &scratch[..plan_len];
-    let plan_back = read_plan(file, job_back);
-    let answer = plan_back.answer;
-    let Answer::Done = answer else {
-        return answer;
-    };
+    read_plan(file, back)?;
     send(file, out)
 }
