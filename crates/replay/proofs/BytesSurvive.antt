@@ -14,13 +14,13 @@ use Rattle.rules.specs.declared.Loss.{Loss}
 use Rattle.rules.specs.Rules.{Row}
 use Rattle.rules.specs.Replay.{State, not_started, cut, finished, is_finished, state_number, TaskRun, finish_of}
 use Rattle.rules.specs.Survival.{Survives}
-use Rattle.replay.specs.States.{outcome}
+use Rattle.replay.specs.States.{state, number_of, outcome}
 use Rattle.replay.specs.Outcomes.{numbers, run_bytes}
 use Rattle.replay.specs.Survival.{BytesTell, OneFinished, BytesSurvive}
-use Rattle.replay.proofs.StateLaws.{two_finished, two_not}
+use Rattle.replay.proofs.StateLaws.{two_finished, two_not, number_is}
 use Rattle.replay.proofs.PackLaws.{row_number}
 
-state_small : (s : State) → state_number s < 2 ^ 32
+state_small : (s : State) → number_of (state s) < 2 ^ 32
 state_small not_started = omega arith
 state_small cut = omega arith
 state_small finished = omega arith
@@ -43,8 +43,8 @@ module _ (job : Job) (t : ℕ → Row) (x : ℕ → TaskRun) where
   pub bytes_tell : ((j : ℕ) → j < tasks job → finish_of (t j) (x j) < 2 ^ 32) → BytesTell job t x (run_bytes job t x)
   unfolding outcome
   bytes_tell small = record {
-    primary = λ j p. number_there j p 0 (12 * j) (omega arith) (omega arith) (state_small (x j).primary);
-    backup = λ j p. number_there j p 1 (12 * j + 4) (omega arith) (omega arith) (state_small (x j).backup);
+    primary = λ j p. number_there j p 0 (12 * j) (omega arith) (omega arith) (state_small (x j).primary) ∙ number_is (x j).primary;
+    backup = λ j p. number_there j p 1 (12 * j + 4) (omega arith) (omega arith) (state_small (x j).backup) ∙ number_is (x j).backup;
     finish = λ j p. number_there j p 2 (12 * j + 8) (omega arith) (omega arith) (small j p);
   }
 

@@ -1,10 +1,10 @@
 -- Laws of inputs: one time and one node say of a task's result what the definition says of its two copies.
 use Prim.Native.Nat.{ℕ, ◌≤◌, ◌<◌}
 use mathlib.Core.Bool.{true, false}
-use mathlib.Core.Path.{◌≡◌, sym, ◌∙◌}
+use mathlib.Core.Path.{◌≡◌, refl, sym, ◌∙◌}
 use native.Mathlib.Omega.{arith}
 use lib.Dec.{eqb}
-use borrow.Author.Tests.{eq-eqb, ne_eqb, lt-leb}
+use borrow.Author.Tests.{ne_eqb, lt-leb}
 use Rattle.reader.specs.declared.job.Job.{Job}
 use Rattle.reader.specs.declared.job.Link.{Link}
 use Rattle.reader.specs.declared.plan.Place.{Place}
@@ -14,17 +14,28 @@ use Rattle.reader.proofs.TestLaws.{split, or_none}
 use Rattle.rules.specs.declared.Copy.{Copy}
 use Rattle.rules.specs.Copies.{delay, in_time}
 use Rattle.rules.specs.Rules.{Row}
-use Rattle.rules.specs.Replay.{is_finished, state_number, TaskRun, arrived, finish_of}
+use Rattle.rules.specs.Replay.{State, not_started, cut, finished, is_finished, TaskRun, arrived, finish_of}
 use Rattle.copies.specs.Arrival.{comes, result_of}
 use Rattle.copies.proofs.ArrivalLaws.{comes_is}
 use Rattle.replay.specs.declared.states.Outcome.{Outcome}
-use Rattle.replay.specs.Inputs.{never, sent_at, sent_from}
-use Rattle.replay.specs.States.{outcome}
-use Rattle.replay.proofs.StateLaws.{two_finished, two_not}
+use Rattle.replay.specs.declared.states.State as code
+use Rattle.replay.specs.declared.states.State.TheVariants.{NotStarted, Cut, Finished}
+use Rattle.replay.specs.Inputs.{never, sent_at, node_of, sent_from}
+use Rattle.replay.specs.States.{state, outcome}
 
 -- the finished copy, as far as a result asks for it
 abbrev pub sender : ℕ → ℕ → Copy
 sender node finish = record { node = node; start = 0; finish = finish }
+
+from_primary : (s : State) (x : Place) → is_finished s ≡ true → node_of (state s) x ≡ x.primary_node
+from_primary not_started x e = cc
+from_primary cut x e = cc
+from_primary finished x e = refl
+
+from_backup : (s : State) (x : Place) → is_finished s ≡ false → node_of (state s) x ≡ x.backup_node
+from_backup not_started x e = refl
+from_backup cut x e = refl
+from_backup finished x e = cc
 
 -- where at most one copy is finished, no finish is 0, and the receiving copy c starts within the limit
 pub sent_arrives : (job : Job) (l : Link) (r : Row) (x : Place) (y : TaskRun) (c : Copy)
@@ -37,11 +48,11 @@ unfolding sent_at sent_from outcome arrived finish_of in_time delay ◌and◌ �
 sent_arrives job l r x y c np nb p b once starts =
     comes_is job l (sender _ _) c
     ∙ split (is_finished y.primary)
-    (λ e. rw (e, once e, eq-eqb (state_number y.primary) 2 (two_finished y.primary e), ← np, ne_eqb r.primary.finish 0 (omega arith))
+    (λ e. rw (e, once e, from_primary y.primary x e, ← np, ne_eqb r.primary.finish 0 (omega arith))
     (sym (or_none _)))
     (λ e.
     split (is_finished y.backup)
-    (λ f. rw (e, f, ne_eqb (state_number y.primary) 2 (two_not y.primary e), ← nb, ne_eqb r.backup.finish 0 (omega arith)))
+    (λ f. rw (e, f, from_backup y.primary x e, ← nb, ne_eqb r.backup.finish 0 (omega arith)))
     (λ f. rw (e, f) (lt-leb _ c.start (omega arith))))
 
 -- and the time fits
@@ -50,6 +61,11 @@ unfolding sent_at
 sent_most o h = split (eqb o.finish 0) (λ e. rw e (omega arith)) (λ e. rw e h)
 
 -- and the node is one of n
+node_below : (s : code.State) (x : Place) (n : ℕ) → x.primary_node < n → x.backup_node < n → node_of s x < n
+node_below NotStarted x n p b = b
+node_below Cut x n p b = b
+node_below Finished x n p b = p
+
 pub sent_below : (o : Outcome) (x : Place) (n : ℕ) → x.primary_node < n → x.backup_node < n → sent_from o x < n
 unfolding sent_from
-sent_below o x n p b = split (eqb o.primary 2) (λ e. rw e p) (λ e. rw e b)
+sent_below o x n p b = node_below o.primary x n p b

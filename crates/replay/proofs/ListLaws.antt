@@ -1,23 +1,17 @@
 -- A list that is given or not: replay goes by its times, or by the listed ones, and without a list that is replay as planned.
 use Prim.Native.Nat.{ℕ, ◌<◌, ◌^◌}
-use mathlib.Core.Bool.{Bool, true, false}
 use mathlib.Core.Path.{◌≡◌, refl, subst}
 use mathlib.Core.List.{List}
 use mathlib.Core.Option.{Option, none, some}
 use native.Mathlib.Omega.{arith}
 use Rattle.reader.specs.declared.job.Job.{Job}
 use Rattle.reader.specs.declared.plan.Plan.{Plan}
-use Rattle.reader.specs.Refusals.{Answer}
 use Rattle.std.specs.Prelude.{Ok}
-use Rattle.reader.specs.First.{when}
 use Rattle.reader.specs.Entries.{tasks}
 use Rattle.reader.specs.Sound.{Sound, PlanSound}
-use Rattle.reader.specs.Reads.{Reads}
 use Rattle.reader.specs.Refusals.{FaultFits}
-use Rattle.reader.proofs.Chain.{finished}
 use Rattle.reader.proofs.FitLaws.{fits_none}
 use Rattle.rules.specs.declared.Loss.{Loss}
-use Rattle.rules.specs.declared.Times.{Times}
 use Rattle.rules.specs.Judge.{judge}
 use Rattle.rules.specs.Times.{TimesSound, ended_rows}
 use Rattle.rules.specs.Replay.{TaskRun, finish_of, replay_times}
@@ -27,23 +21,17 @@ use Rattle.rules.proofs.TimesLaws.{listed_sound, ended_listed, replay_listed}
 use Rattle.rules.proofs.EndedSurvives.{passed_survives_times}
 use Rattle.replay.specs.Survival.{BytesTell, BytesSurvive}
 use Rattle.replay.specs.Outcomes.{run_bytes, replay_bytes}
-use Rattle.replay.specs.TimesFile.{times_fault, times_at, list_fault, list_times, chosen, list_rows, list_run}
+use Rattle.replay.specs.TimesFile.{times_at, list_fault, list_times, times_in, chosen, list_rows, list_run}
 use Rattle.replay.proofs.PairLaws.{finish_most}
 use Rattle.replay.proofs.WriteLaws.{run_bytes_same}
 use Rattle.replay.proofs.TimesFileLaws.{times_fits, times_sound}
 use Rattle.replay.proofs.BytesSurvive.{bytes_tell, tells_survive}
 
--- `read_list`
-module _ (s : List ℕ) (job : Job) (plan : Plan) (given : Bool) (a : Answer) (times : Times) where
-  pub list_given : given ≡ true → Reads (times_fault s job plan) a (times ≡ times_at s (tasks job))
-      → Reads (list_fault (when given s) job plan) a (chosen given times job plan ≡ list_times (when given s) job plan)
-  unfolding when list_fault list_times chosen
-  list_given e = rw e λ h. h
-
-  pub list_none : given ≡ false → a ≡ Ok tt
-      → Reads (list_fault (when given s) job plan) a (chosen given times job plan ≡ list_times (when given s) job plan)
-  unfolding when list_fault list_times chosen
-  list_none e done = rw e (finished refl done refl)
+-- the times of a list, or the listed ones
+pub times_chosen : (list : Option (List ℕ)) (job : Job) (plan : Plan) → chosen (times_in list job) job plan ≡ list_times list job plan
+unfolding chosen times_in list_times
+times_chosen none job plan = refl
+times_chosen (some s) job plan = refl
 
 module _ (job : Job) (plan : Plan) (sound : Sound job) where
   -- the rows and the run by the times that the list comes to

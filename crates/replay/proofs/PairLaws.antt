@@ -1,6 +1,7 @@
 -- The copies of a task: those of the plan's row, within their limits; and its run.
 use Prim.Native.Nat.{ℕ, ◌+◌, ◌≤◌, ◌<◌}
 use mathlib.Core.Bool.{Bool, true, false}
+use Rattle.std.specs.Prelude.{Option, Some, None}
 use mathlib.Core.Path.{◌≡◌, refl, sym, ap, ◌∙◌}
 use native.Mathlib.Omega.{arith}
 use Rattle.reader.specs.declared.job.Job.{Job}
@@ -21,8 +22,8 @@ use Rattle.rules.specs.Replay.{TaskRun, is_finished, attempt, fed, run_primary, 
 use Rattle.rules.proofs.FaultSetLaws.{row_primary, row_backup}
 use Rattle.rules.proofs.TimesLaws.{listed_took}
 use Rattle.replay.specs.declared.states.Pair.{Pair}
-use Rattle.replay.specs.TimesFile.{chosen}
-use Rattle.replay.specs.States.{PairFits, picked, pair_at, InGroups, pair_row, run_fed, outcome}
+use Rattle.replay.specs.TimesFile.{chosen, took_by}
+use Rattle.replay.specs.States.{PairFits, pair_at, InGroups, pair_row, run_fed, outcome}
 
 -- a backup whose primary finished is not activated
 pub once_finished : (job : Job) (listed t : ℕ → Row) (loss : Loss) (before : ℕ → TaskRun) (j : ℕ) (x : TaskRun)
@@ -97,23 +98,23 @@ module _ (job : Job) (plan : Plan) (times : Times) (all : Sound job × PlanSound
         (λ e. rw e primary_ends_lem.1)
         (λ e. split (is_finished x.backup) (λ f. rw (e, f) backup_ends_lem.1) (λ f. rw (e, f) (omega arith)))
 
--- task j where times are given or not, as `pair_of` picks them
-module _ (job : Job) (plan : Plan) (given : Bool) (times : Times)
-    (all : Sound job × PlanSound job plan × TimesSound job plan (chosen given times job plan)) (j : ℕ) (below : j < tasks job) where
+-- task j where times are given or not
+module _ (job : Job) (plan : Plan) (given : Option Times)
+    (all : Sound job × PlanSound job plan × TimesSound job plan (chosen given job plan)) (j : ℕ) (below : j < tasks job) where
   abbrev x : Place
   x = place plan j
 
   abbrev ticks : Took
-  ticks = picked given (took times j) (listed_of job plan j)
+  ticks = took_by given j (listed_of job plan j)
 
-  picked_is : (given : Bool) → picked given (took times j) (listed_of job plan j) ≡ took (chosen given times job plan) j
-  unfolding chosen
-  picked_is true = refl
-  picked_is false = sym (listed_took job all.0 plan j below)
+  ticks_are : (given : Option Times) → took_by given j (listed_of job plan j) ≡ took (chosen given job plan) j
+  unfolding chosen took_by
+  ticks_are (Some times) = refl
+  ticks_are None = sym (listed_took job all.0 plan j below)
 
-  pub picked_fits : PairFits (task job j) x ticks (detect job x.primary_node)
-  picked_fits = rw (picked_is given) (fits job plan (chosen given times job plan) all j below)
+  pub ticks_fit : PairFits (task job j) x ticks (detect job x.primary_node)
+  ticks_fit = rw (ticks_are given) (fits job plan (chosen given job plan) all j below)
 
-  pub picked_pair : (y : Pair) → y ≡ pair_at (task job j) x ticks (node job x.primary_node) (node job x.backup_node)
-      → y ≡ pair job plan (chosen given times job plan) all j
-  picked_pair y e = e ∙ ap (λ t. pair_at (task job j) x t (node job x.primary_node) (node job x.backup_node)) (picked_is given)
+  pub ticks_pair : (y : Pair) → y ≡ pair_at (task job j) x ticks (node job x.primary_node) (node job x.backup_node)
+      → y ≡ pair job plan (chosen given job plan) all j
+  ticks_pair y e = e ∙ ap (λ t. pair_at (task job j) x t (node job x.primary_node) (node job x.backup_node)) (ticks_are given)

@@ -12,7 +12,7 @@ use Rattle.reader.specs.declared.plan.Plan.{Plan}
 use Rattle.reader.specs.Tests.{◌and◌, ◌implies◌}
 use Rattle.reader.specs.First.{fill}
 use Rattle.reader.specs.Limits.{max_tasks, max_start}
-use Rattle.reader.specs.Entries.{nodes, tasks, links, send, task, link, place}
+use Rattle.reader.specs.Entries.{nodes, tasks, links, send, node, task, link, place}
 use Rattle.reader.specs.Sound.{Sound, PlanSound}
 use Rattle.rules.specs.declared.Copy.{Copy}
 use Rattle.rules.specs.declared.Loss.{Loss}
@@ -31,7 +31,7 @@ use Rattle.replay.specs.declared.Outcomes.{Outcomes}
 use Rattle.replay.specs.Inputs.{sent_at, sent_from}
 use Rattle.replay.specs.States.{pair_row, run_from, outcome}
 use Rattle.replay.specs.Outcomes.{replayed, no_outcome, outcomes}
-use Rattle.replay.specs.Progress.{zeros, started}
+use Rattle.replay.specs.Progress.{zeros, started, sent, stored}
 use Rattle.reader.proofs.FirstLaws.{every_rest}
 use Rattle.reader.proofs.FillLaws.{filled_more, filled_at}
 use Rattle.replay.proofs.LinkOrder.{ahead}
@@ -139,12 +139,9 @@ module _ (job : Job) (plan : Plan) (times : Times) (loss : Loss) (all : Sound jo
           (once_finished job (rows job plan) T loss R i (R i) (run_own i i_below)) starts))
           (λ t away. rw (ne_eqb to t away))
 
-      pub upto_sent : (a b v w : ℕ)
-          → v ≡ arrival_of result (place plan to).primary_node → a ≡ max (get_or r.primary to 0) v
-          → w ≡ arrival_of result (place plan to).backup_node → b ≡ max (get_or r.backup to 0) w
-          → Upto job plan times loss j (k + 1)
-          (record { of = r.of; at = r.at; node = r.node; primary = set r.primary to a; backup = set r.backup to b })
-      upto_sent a b v w ev ea ew eb =
+      pub upto_sent : Upto job plan times loss j (k + 1) (sent r (link job k) (node job (get_or r.node i 0)) (place plan to))
+      unfolding sent
+      upto_sent =
           let below = sound.into k more in
           let p = primary_is job plan times all to below in
           let q = backup_is job plan times all to below in
@@ -155,9 +152,9 @@ module _ (job : Job) (plan : Plan) (times : Times) (loss : Loss) (all : Sound jo
             at_is = u.at_is;
             node_is = u.node_is;
             primary_ready =
-                ready_more (λ t. (T t).primary) r.primary _ a v u.primary_ready (ap (λ c. c.node) p) (rw p (all.1.primary_start to below)) ev ea;
+                ready_more (λ t. (T t).primary) r.primary _ _ _ u.primary_ready (ap (λ c. c.node) p) (rw p (all.1.primary_start to below)) refl refl;
             backup_ready =
-                ready_more (λ t. (T t).backup) r.backup _ b w u.backup_ready (ap (λ c. c.node) q) (rw q (all.1.backup_start to below)) ew eb;
+                ready_more (λ t. (T t).backup) r.backup _ _ _ u.backup_ready (ap (λ c. c.node) q) (rw q (all.1.backup_start to below)) refl refl;
           }
 
     -- task j is settled: no link is left that could feed it
@@ -196,19 +193,18 @@ module _ (job : Job) (plan : Plan) (times : Times) (loss : Loss) (all : Sound jo
           (fed_is (λ t. (T t).backup) r.backup _ u.backup_ready (ap (λ c. c.start) b))
           ∙ ap (λ x. outcome (T j) x) (sym (run_own j below))
 
-      pub upto_settled : (x : Pair) (v : ℕ) (o : Outcome) (a n : ℕ) → x ≡ pair job plan times all j → v ≡ soonest
+      pub upto_settled : (x : Pair) (v : ℕ) (o : Outcome) → x ≡ pair job plan times all j → v ≡ soonest
           → o ≡ outcome (pair_row x) (run_from job loss v (get_or r.backup j 0) x)
-          → a ≡ sent_at o → n ≡ sent_from o (place plan j)
-          → Upto job plan times loss (j + 1) k
-          (record { of = set r.of j o; at = set r.at j a; node = set r.node j n; primary = r.primary; backup = r.backup })
-      upto_settled x v o a n ex ev eo ea en =
+          → Upto job plan times loss (j + 1) k (stored r j o (place plan j))
+      unfolding stored
+      upto_settled x v o ex ev eo =
           let is = told x v o ex ev eo in
           record {
             within = omega arith;
             links_within = u.links_within;
             of_is = filled_more _ _ r.of j o u.of_is is;
-            at_is = filled_more _ _ r.at j a u.at_is (ea ∙ ap sent_at is);
-            node_is = filled_more _ _ r.node j n u.node_is (en ∙ ap (λ o. sent_from o (place plan j)) is);
+            at_is = filled_more _ _ r.at j (sent_at o) u.at_is (ap sent_at is);
+            node_is = filled_more _ _ r.node j (sent_from o (place plan j)) u.node_is (ap (λ o. sent_from o (place plan j)) is);
             primary_ready = u.primary_ready;
             backup_ready = u.backup_ready;
           }

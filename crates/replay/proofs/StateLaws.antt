@@ -6,64 +6,84 @@ use native.Mathlib.Omega.{arith}
 use borrow.Author.Tests.{eq-eqb, ne_eqb, lt-ltb, le-ltb, le-leb, lt-leb}
 use Rattle.reader.specs.declared.job.Job.{Job}
 use Rattle.reader.specs.Tests.{◌and◌}
-use Rattle.reader.proofs.TestLaws.{and_if, clash, never}
+use Rattle.reader.proofs.TestLaws.{and_if, clash}
 use Rattle.rules.specs.declared.Copy.{Copy}
 use Rattle.rules.specs.declared.Loss.{Loss}
 use Rattle.rules.specs.declared.Loss.TheVariants.{NoLoss, Lost}
 use Rattle.rules.specs.Copies.{domain}
-use Rattle.rules.specs.Replay.{State, not_started, cut, finished, is_finished, state_number, started, attempt, finish_of}
+use Rattle.rules.specs.Replay as rules
+use Rattle.rules.specs.Replay.{not_started, cut, finished, is_finished, state_number, started, attempt, finish_of}
 use Rattle.replay.specs.declared.states.Pair.{Pair}
 use Rattle.replay.specs.declared.states.Outcome.{Outcome}
-use Rattle.replay.specs.States.{run_fed, pair_row, outcome}
+use Rattle.replay.specs.declared.states.State.{State}
+use Rattle.replay.specs.declared.states.State.TheVariants.{NotStarted, Cut, Finished}
+use denote.Enum.Bare.{sameb}
+use Rattle.replay.specs.contracts.states.State.{the_type}
+use Rattle.replay.specs.States.{state, number_of, run_fed, pair_row, outcome}
 
 -- `state_of`
 module _ (job : Job) (loss : Loss) (may : Bool) (c : Copy) where
-  pub state_barred : may ≡ false → 0 ≡ state_number (attempt job loss may c)
+  pub state_barred : may ≡ false → NotStarted ≡ state (attempt job loss may c)
   unfolding attempt
   state_barred e = rw e
 
-  pub state_safe : may ≡ true → loss ≡ NoLoss → 2 ≡ state_number (attempt job loss may c)
+  pub state_safe : may ≡ true → loss ≡ NoLoss → Finished ≡ state (attempt job loss may c)
   unfolding attempt started
   state_safe e n = rw (e, n)
 
   -- on a node of this group
   module _ (q f group : ℕ) (e : may ≡ true) (n : loss ≡ Lost q f) (on : domain job c.node ≡ group) where
-    pub state_away : (group ≡ q → ⊥) → 2 ≡ state_number (attempt job loss may c)
+    pub state_away : (group ≡ q → ⊥) → Finished ≡ state (attempt job loss may c)
     unfolding attempt started
     state_away h = rw (e, n, on, ne_eqb group q h)
 
-    pub state_late : group ≡ q → f ≤ c.start → 0 ≡ state_number (attempt job loss may c)
+    pub state_late : group ≡ q → f ≤ c.start → NotStarted ≡ state (attempt job loss may c)
     unfolding attempt started
     state_late h p = rw (e, n, on, eq-eqb group q h, le-ltb c.start f p)
 
-    pub state_finished : group ≡ q → c.start < f → c.finish ≤ f → 2 ≡ state_number (attempt job loss may c)
+    pub state_finished : group ≡ q → c.start < f → c.finish ≤ f → Finished ≡ state (attempt job loss may c)
     unfolding attempt started
     state_finished h p r = rw (e, n, on, eq-eqb group q h, lt-ltb c.start f p, le-leb c.finish f r)
 
-    pub state_cut : group ≡ q → c.start < f → f < c.finish → 1 ≡ state_number (attempt job loss may c)
+    pub state_cut : group ≡ q → c.start < f → f < c.finish → Cut ≡ state (attempt job loss may c)
     unfolding attempt started
     state_cut h p r = rw (e, n, on, eq-eqb group q h, lt-ltb c.start f p, lt-leb c.finish f r)
 
 -- states by their numbers
-pub two_finished : (s : State) → is_finished s ≡ true → state_number s ≡ 2
+pub two_finished : (s : rules.State) → is_finished s ≡ true → state_number s ≡ 2
 two_finished not_started e = clash false e refl
 two_finished cut e = clash false e refl
 two_finished finished e = refl
 
-pub two_not : (s : State) → is_finished s ≡ false → state_number s ≡ 2 → ⊥
+pub two_not : (s : rules.State) → is_finished s ≡ false → state_number s ≡ 2 → ⊥
 two_not not_started e h = omega arith
 two_not cut e h = omega arith
 two_not finished e h = clash true refl e
 
-finished_two : (s : State) → state_number s ≡ 2 → s ≡ finished
-finished_two not_started e = never (omega arith)
-finished_two cut e = never (omega arith)
-finished_two finished e = refl
+-- and in the code's words
+pub number_is : (s : rules.State) → number_of (state s) ≡ state_number s
+number_is not_started = refl
+number_is cut = refl
+number_is finished = refl
 
-not_finished : (s : State) → (state_number s ≡ 2 → ⊥) → is_finished s ≡ false
+finished_is : (s : rules.State) → state s ≡ Finished → s ≡ finished
+finished_is not_started e = cc
+finished_is cut e = cc
+finished_is finished e = refl
+
+not_finished : (s : rules.State) → (state s ≡ Finished → ⊥) → is_finished s ≡ false
 not_finished not_started h = refl
 not_finished cut h = refl
 not_finished finished h = absurd (h refl)
+
+-- the test of two states
+pub is_done : (a : State) → sameb the_type a Finished ≡ true → a ≡ Finished
+is_done NotStarted e = cc
+is_done Cut e = cc
+is_done Finished e = refl
+
+pub not_done : (a : State) → sameb the_type a Finished ≡ false → a ≡ Finished → ⊥
+not_done a e h = cc
 
 -- a backup whose primary finished is not activated
 barred : (job : Job) (loss : Loss) (ok : Bool) (c : Copy) → attempt job loss (false and ok) c ≡ not_started
@@ -71,20 +91,20 @@ unfolding attempt ◌and◌
 barred job loss ok c = refl
 
 -- `settle`: a is the primary's state, s the backup's
-module _ (job : Job) (loss : Loss) (fed fed_backup : Bool) (x : Pair) (a : ℕ) (e : a ≡ state_number (attempt job loss fed x.primary)) where
-  abbrev first : State
+module _ (job : Job) (loss : Loss) (fed fed_backup : Bool) (x : Pair) (a : State) (e : a ≡ state (attempt job loss fed x.primary)) where
+  abbrev first : rules.State
   first = attempt job loss fed x.primary
 
   abbrev told : Outcome
   told = outcome (pair_row x) (run_fed job loss fed fed_backup x)
 
-  pub settle_primary : a ≡ 2 → ◌≡◌ {A = Outcome} (record { primary = 2; backup = 0; finish = x.primary.finish }) told
+  pub settle_primary : a ≡ Finished → ◌≡◌ {A = Outcome} (record { primary = a; backup = NotStarted; finish = x.primary.finish }) told
   unfolding outcome run_fed finish_of
-  settle_primary two = rw (finished_two first (sym e ∙ two), barred job loss (x.detected and fed_backup) x.backup)
+  settle_primary done = rw (done, finished_is first (sym e ∙ done), barred job loss (x.detected and fed_backup) x.backup)
 
   -- the primary did not finish: the backup may start, or may not
-  module _ (other : a ≡ 2 → ⊥) (may : Bool) (m : may ≡ (x.detected and fed_backup)) where
-    abbrev second : State
+  module _ (other : a ≡ Finished → ⊥) (may : Bool) (m : may ≡ (x.detected and fed_backup)) where
+    abbrev second : rules.State
     second = attempt job loss may x.backup
 
     unfinished : is_finished first ≡ false
@@ -94,11 +114,11 @@ module _ (job : Job) (loss : Loss) (fed fed_backup : Bool) (x : Pair) (a : ℕ) 
     unfolding run_fed
     called_on = rw (unfinished, and_if true (x.detected and fed_backup) refl, ← m)
 
-    module _ (s : ℕ) (h : s ≡ state_number second) where
-      pub settle_backup : s ≡ 2 → ◌≡◌ {A = Outcome} (record { primary = a; backup = 2; finish = x.backup.finish }) told
+    module _ (s : State) (h : s ≡ state second) where
+      pub settle_backup : s ≡ Finished → ◌≡◌ {A = Outcome} (record { primary = a; backup = s; finish = x.backup.finish }) told
       unfolding outcome finish_of
-      settle_backup two = rw (called_on, unfinished, finished_two second (sym h ∙ two), e)
+      settle_backup done = rw (called_on, unfinished, finished_is second (sym h ∙ done), e, done)
 
-      pub settle_neither : (s ≡ 2 → ⊥) → ◌≡◌ {A = Outcome} (record { primary = a; backup = s; finish = 0 }) told
+      pub settle_neither : (s ≡ Finished → ⊥) → ◌≡◌ {A = Outcome} (record { primary = a; backup = s; finish = 0 }) told
       unfolding outcome finish_of
       settle_neither neither = rw (called_on, unfinished, not_finished second (λ q. neither (h ∙ q)), e, h)

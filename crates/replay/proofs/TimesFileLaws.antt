@@ -1,6 +1,6 @@
 -- Laws of a list of actual times: what the loops over it have done, and what reading promises of it.
 use Prim.Native.Nat.{ℕ, zero, suc, ◌+◌, ◌*◌, ◌^◌, ◌≤◌, ◌<◌}
-use mathlib.Core.Path.{◌≡◌, refl, ap, ap₂, ◌∙◌, subst}
+use mathlib.Core.Path.{◌≡◌, refl, ap, ap₂, ◌∙◌}
 use mathlib.Core.Logic.{◌↔◌}
 use mathlib.Core.List.{List, [], ◌∷◌}
 use mathlib.Core.Option.{none, some}
@@ -10,22 +10,19 @@ use Rattle.reader.specs.declared.job.Job.{Job}
 use Rattle.reader.specs.declared.plan.Plan.{Plan}
 use Rattle.reader.specs.declared.refusal.Refusal.{Refusal}
 use Rattle.reader.specs.declared.refusal.Refusal.TheVariants.{Value, Tail}
-use Rattle.reader.specs.Refusals.{Answer}
-use Rattle.std.specs.Prelude.{Ok, Err}
 use Rattle.reader.specs.First.{◌or_else◌}
 use Rattle.reader.specs.Limits.{max_tasks}
 use Rattle.reader.specs.Entries.{tasks}
 use Rattle.reader.specs.Sound.{Sound, PlanSound}
 use Rattle.reader.specs.Number.{number_at}
-use Rattle.reader.specs.Reads.{Reads}
 use Rattle.reader.specs.Refusals.{FaultFits}
 use Rattle.reader.specs.JobFile.{tail_fault}
 use Rattle.reader.proofs.FirstLaws.{or_else_l, or_else_r, or_else_i, none_first, first_none}
 use Rattle.reader.proofs.FillLaws.{fill_get}
 use Rattle.reader.proofs.FieldLaws.{Good, field_good, good_field}
 use Rattle.reader.proofs.FitLaws.{fits_or_else, fits_first, value_fits, tail_fits}
-use Rattle.reader.proofs.Chain.{pass, stop, stopped, finished, reads_none, reads_some, reads_value}
-use Rattle.reader.proofs.ReadLoop.{ReadTo, read_stop, read_done}
+use Rattle.reader.proofs.Chain.{pass, stop}
+use Rattle.reader.proofs.ReadLoop.{ReadTo, read_stop, read_fine, read_end}
 use Rattle.reader.proofs.Accepted.{tail_most}
 use Rattle.reader.proofs.Faultless.{good_tail}
 use Rattle.reader.proofs.JobLaws.{tail_some}
@@ -47,26 +44,23 @@ module _ (s : List ℕ) (job : Job) (plan : Plan) where
   TimesTo = ReadTo none (tasks job) (λ j. took_fault s (8 * j) (listed_of job plan j)) (λ j. took_at s (8 * j)) (replicate max_tasks no_took) (tasks job)
 
   module _ (i : ℕ) (of : List Took) (inv : TimesTo i of) where
-    pub times_stop : {X : Type 0} {a : Answer} {r : Refusal} → i < tasks job → took_fault s (8 * i) (listed_of job plan i) ≡ some r → a ≡ Err r
-        → Reads (times_fault s job plan) a X
+    pub times_stop : {r : Refusal} → i < tasks job → took_fault s (8 * i) (listed_of job plan i) ≡ some r → times_fault s job plan ≡ some r
     unfolding times_fault ◌or_else◌
-    times_stop {X} {a} {r} below bad told =
-        stopped (stop _ (reads_some (read_stop _ _ _ _ _ _ i of inv {X = Unit {0}} {a = Err r} below bad refl) refl)) told
+    times_stop below bad = stop _ (read_stop _ _ _ _ _ _ i of inv below bad)
 
     to_tail : tasks job ≤ i → times_fault s job plan ≡ tail_fault s (8 * tasks job)
     unfolding times_fault ◌or_else◌
-    to_tail all = pass _ (reads_none (read_done _ _ _ _ _ _ i of inv all) refl)
+    to_tail all = pass _ (read_fine _ _ _ _ _ _ i of inv all)
 
-    pub times_tail : {X : Type 0} {a : Answer} → tasks job ≤ i → 8 * tasks job < length s → a ≡ Err (Tail (8 * tasks job))
-        → Reads (times_fault s job plan) a X
-    times_tail all h told = stopped (to_tail all ∙ tail_some s _ h) told
+    pub times_tail : tasks job ≤ i → 8 * tasks job < length s → times_fault s job plan ≡ some (Tail (8 * tasks job))
+    times_tail all h = to_tail all ∙ tail_some s _ h
 
-    pub times_whole : tasks job ≤ i → length s ≤ 8 * tasks job
-        → Reads (times_fault s job plan) (Ok tt) (◌≡◌ {A = Times} (record { of = of }) (times_at s (tasks job)))
-    unfolding times_at ◌or_else◌
-    times_whole all h =
-        finished (to_tail all ∙ good_tail s _ h) refl
-        (ap (λ l. record { of = l }) (reads_value (read_done _ _ _ _ _ _ i of inv all) refl).1)
+    pub times_whole : tasks job ≤ i → length s ≤ 8 * tasks job → times_fault s job plan ≡ none
+    times_whole all h = to_tail all ∙ good_tail s _ h
+
+    pub times_are : tasks job ≤ i → ◌≡◌ {A = Times} (record { of = of }) (times_at s (tasks job))
+    unfolding times_at
+    times_are all = ap (λ l. record { of = l }) (read_end _ _ _ _ _ _ i of inv all).1
 
   pub times_fits : tasks job ≤ max_tasks → FaultFits (times_fault s job plan)
   unfolding times_fault took_fault
@@ -75,11 +69,6 @@ module _ (s : List ℕ) (job : Job) (plan : Plan) where
       (fits_first _ _ λ j p.
       fits_or_else _ _ (value_fits s (8 * j) 1 _ (omega arith)) (λ _. value_fits s (8 * j + 4) 1 _ (omega arith)))
       (λ _. tail_fits s _ (omega arith))
-
--- what was read with these limits
-pub read_with : (s : List ℕ) (at : ℕ) {a : Answer} {x most limit : Took} → most ≡ limit → Reads (took_fault s at most) a (x ≡ took_at s at)
-    → Reads (took_fault s at limit) a (x ≡ took_at s at)
-read_with s at {a} {x} {most} {limit} e = subst (λ m. Reads (took_fault s at m) a (x ≡ took_at s at)) e
 
 -- rows of 8 bytes that are there
 rooms : (n size : ℕ) → ((j : ℕ) → j < n → 8 * j + 8 ≤ size) → 8 * n ≤ size

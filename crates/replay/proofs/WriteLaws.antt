@@ -17,7 +17,7 @@ use Rattle.rules.specs.Rules.{Row}
 use Rattle.rules.specs.Replay.{TaskRun}
 use Rattle.replay.specs.declared.states.Outcome.{Outcome}
 use Rattle.replay.specs.declared.Outcomes.{Outcomes}
-use Rattle.replay.specs.States.{outcome}
+use Rattle.replay.specs.States.{number_of, outcome}
 use Rattle.replay.specs.Outcomes.{no_outcome, outcomes, numbers, outcome_bytes, run_bytes, replay_bytes}
 use Rattle.reader.proofs.FillLaws.{filled_at}
 use Rattle.writer.proofs.PutLaws.{length_splice, splice_more, splice_behind, splice_front}
@@ -25,15 +25,17 @@ use Rattle.replay.proofs.PackLaws.{length_rows, pack_more}
 use Rattle.writer.proofs.SameNumbers.{flat_same}
 
 -- `put_outcome`
-pub outcome_put : (d d₁ d₂ d₃ : List ℕ) (at : ℕ) (o : Outcome) → at + 12 ≤ length d → d₁ ≡ splice d at (bytes o.primary)
-    → d₂ ≡ splice d₁ (at + 4) (bytes o.backup) → d₃ ≡ splice d₂ (at + 8) (bytes o.finish) → d₃ ≡ splice d at (pack (numbers o))
+pub outcome_put : (d d₁ d₂ d₃ : List ℕ) (at : ℕ) (o : Outcome) (p b : ℕ) → at + 12 ≤ length d
+    → p ≡ number_of o.primary → b ≡ number_of o.backup
+    → d₁ ≡ splice d at (bytes p) → d₂ ≡ splice d₁ (at + 4) (bytes b) → d₃ ≡ splice d₂ (at + 8) (bytes o.finish)
+    → d₃ ≡ splice d at (pack (numbers o))
 unfolding pack
-outcome_put d d₁ d₂ d₃ at o h e₁ e₂ e₃ =
-    let a = bytes o.primary in
-    let b = bytes o.backup in
-    let c = bytes o.finish in
-    let two : d₂ ≡ splice d at (a ++ b) = e₂ ∙ ap (λ x. splice x (at + 4) b) e₁ ∙ splice_more d at a b in
-    e₃ ∙ ap (λ x. splice x (at + 8) c) two ∙ splice_more d at (a ++ b) c
+outcome_put d d₁ d₂ d₃ at o p b h ep eb e₁ e₂ e₃ =
+    let two : d₂ ≡ splice d at (bytes p ++ bytes b) = e₂ ∙ ap (λ x. splice x (at + 4) (bytes b)) e₁ ∙ splice_more d at (bytes p) (bytes b) in
+    e₃
+    ∙ ap (λ x. splice x (at + 8) (bytes o.finish)) two
+    ∙ splice_more d at (bytes p ++ bytes b) (bytes o.finish)
+    ∙ ap₂ (λ p b. splice d at ((bytes p ++ bytes b) ++ bytes o.finish)) ep eb
 
 -- `write_outcomes`: the buffer after j tasks
 pub record Written (o : Outcomes) (n : ℕ) (out₀ : List ℕ) (j : ℕ) (out : List ℕ) : Type 0 where

@@ -2,6 +2,8 @@
 use Rattle.std.specs.Prelude.{ℕ, cond, eqb}
 use Rattle.reader.specs.declared.plan.Place.{Place}
 use Rattle.replay.specs.declared.states.Outcome.{Outcome}
+use Rattle.replay.specs.declared.states.State.{State}
+use Rattle.replay.specs.declared.states.State.TheVariants.{NotStarted, Cut, Finished}
 
 -- later than any start
 abbrev pub never : ℕ
@@ -11,6 +13,12 @@ never = 4_000_000
 unfoldable pub sent_at : Outcome → ℕ
 sent_at o = cond (eqb o.finish 0) never o.finish
 
--- and of place x: the node of that copy; without a finished copy it says nothing
+-- of a task at place x whose primary ended so: the node of the finished copy; without one it says nothing
+abbrev pub node_of : State → Place → ℕ
+node_of Finished x = x.primary_node
+node_of NotStarted x = x.backup_node
+node_of Cut x = x.backup_node
+
+-- and of place x: the node of that copy
 unfoldable pub sent_from : Outcome → Place → ℕ
-sent_from o x = cond (eqb o.primary 2) x.primary_node x.backup_node
+sent_from o x = node_of o.primary x

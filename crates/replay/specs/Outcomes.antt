@@ -13,21 +13,22 @@ use Rattle.rules.specs.Times.{ended_rows}
 use Rattle.rules.specs.Replay.{TaskRun, replay_times}
 use Rattle.replay.specs.declared.Outcomes.{Outcomes}
 use Rattle.replay.specs.declared.states.Outcome.{Outcome}
-use Rattle.replay.specs.States.{outcome}
+use Rattle.replay.specs.declared.states.State.TheVariants.{NotStarted}
+use Rattle.replay.specs.States.{number_of, outcome}
 
 -- the numbers of task j, its copies taking these times
 abbrev pub replayed : Job → Plan → Times → Loss → ℕ → Outcome
 replayed job plan times loss j = outcome (ended_rows job plan times j) (replay_times job plan times loss j)
 
 abbrev pub no_outcome : Outcome
-no_outcome = record { primary = 0; backup = 0; finish = 0 }
+no_outcome = record { primary = NotStarted; backup = NotStarted; finish = 0 }
 
 -- those of every task of the job
 unfoldable pub outcomes : Job → Plan → Times → Loss → Outcomes
 outcomes job plan times loss = record { of = fill (tasks job) (replayed job plan times loss) (replicate max_tasks no_outcome) }
 
 abbrev pub numbers : Outcome → List ℕ
-numbers o = o.primary ∷ o.backup ∷ o.finish ∷ []
+numbers o = number_of o.primary ∷ number_of o.backup ∷ o.finish ∷ []
 
 -- the bytes of the first n of them
 unfoldable pub outcome_bytes : Outcomes → ℕ → List ℕ

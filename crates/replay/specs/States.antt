@@ -1,5 +1,5 @@
 -- One task on its own: its copies, its run and the numbers of that run.
-use Rattle.std.specs.Prelude.{ℕ, ◌+◌, ◌≤◌, ◌<◌, Bool, false, not, cond, ◌≡◌, leb, get_or}
+use Rattle.std.specs.Prelude.{ℕ, ◌+◌, ◌≤◌, ◌<◌, Bool, false, not, ◌≡◌, leb, get_or}
 use Rattle.reader.specs.declared.job.Job.{Job}
 use Rattle.reader.specs.declared.job.Node.{Node}
 use Rattle.reader.specs.declared.job.Task.{Task}
@@ -11,8 +11,11 @@ use Rattle.rules.specs.declared.Loss.{Loss}
 use Rattle.rules.specs.declared.Took.{Took}
 use Rattle.rules.specs.Copies.{domain}
 use Rattle.rules.specs.Rules.{Row}
-use Rattle.rules.specs.Replay.{TaskRun, state_number, is_finished, attempt, finish_of}
+use Rattle.rules.specs.Replay as rules
+use Rattle.rules.specs.Replay.{TaskRun, not_started, cut, finished, is_finished, attempt, finish_of}
 use Rattle.replay.specs.declared.states.Pair.{Pair}
+use Rattle.replay.specs.declared.states.State.{State}
+use Rattle.replay.specs.declared.states.State.TheVariants.{NotStarted, Cut, Finished}
 use Rattle.replay.specs.declared.states.Outcome.{Outcome}
 
 -- numbers within their limits, so that no sum of them wraps
@@ -26,9 +29,17 @@ pub record PairFits (t : Task) (x : Place) (took : Took) (detect : ℕ) : Type 0
   pub backup_took : took.backup ≤ max_time
   pub detect_most : detect ≤ max_detect
 
--- the ticks of a, where they are given, else those of b
-abbrev pub picked : Bool → Took → Took → Took
-picked given a b = record { primary = cond given a.primary b.primary; backup = cond given a.backup b.backup }
+-- what becomes of a copy, in the code's words
+abbrev pub state : rules.State → State
+state not_started = NotStarted
+state cut = Cut
+state finished = Finished
+
+-- '0 not started, 1 cut, 2 finished'
+abbrev pub number_of : State → ℕ
+number_of NotStarted = 0
+number_of Cut = 1
+number_of Finished = 2
 
 abbrev pub copy_at : ℕ → ℕ → ℕ → Copy
 copy_at n s ticks = record { node = n; start = s; finish = s + ticks }
@@ -59,7 +70,7 @@ run_from job loss ready ready_backup x = run_fed job loss (leb ready x.primary.s
 
 -- 'Per task replay writes three numbers: primary and backup (0 not started, 1 cut, 2 finished), and the finish of the finished copy (0 if none).'
 unfoldable pub outcome : Row → TaskRun → Outcome
-outcome r x = record { primary = state_number x.primary; backup = state_number x.backup; finish = finish_of r x }
+outcome r x = record { primary = state x.primary; backup = state x.backup; finish = finish_of r x }
 
 -- the row of two copies; replay asks nothing of its fault set
 abbrev pub pair_row : Pair → Row

@@ -2,7 +2,7 @@
 ghost use Rattle.std.specs.Prelude.{◌≡◌};
 ghost use Rattle.replay.specs.Inputs.{sent_at, sent_from};
 
-use crate::states::Outcome;
+use crate::states::{Outcome, State};
 use reader::plan::Place;
 
 // Later than any start: what no copy finished is never there.
@@ -15,12 +15,12 @@ pub fn sent_at(o: Outcome) -> u32
 }
 
 // The node of the finished copy.
+#[tactic(auto, unfolding(crate::specs::Inputs::sent_from))]
 pub fn sent_from(o: Outcome, x: Place) -> u32
     ensures { result ≡ sent_from o x }
 {
-    if o.primary == 2 {
-        x.primary_node
-    } else {
-        x.backup_node
+    match o.primary {
+        State::Finished => x.primary_node,
+        State::NotStarted | State::Cut => x.backup_node,
     }
 }

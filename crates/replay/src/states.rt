@@ -1,13 +1,10 @@
 // One task: its two copies, and what they come to.
 ghost use Rattle.std.specs.Prelude.{◌≡◌};
 ghost use Rattle.reader.specs.declared.job.Job.{Job};
-ghost use Rattle.reader.specs.Tests.{◌and◌};
 ghost use Rattle.rules.specs.Copies.{domain};
-ghost use Rattle.rules.specs.Times.{listed_at};
-ghost use Rattle.rules.specs.Replay.{state_number, attempt};
-ghost use Rattle.replay.specs.States.{PairFits, picked, pair_at, InGroups, pair_row, run_from, outcome};
+ghost use Rattle.rules.specs.Replay.{attempt};
+ghost use Rattle.replay.specs.States.{state, number_of, PairFits, pair_at, InGroups, pair_row, run_from, outcome};
 
-use copies::arrival::pick;
 use reader::job::{Node, Task};
 use reader::plan::Place;
 use rules::{Copy, Loss, Took};
@@ -22,26 +19,39 @@ pub struct Pair {
     pub detected: bool,
 }
 
-// The numbers that replay writes of a task: the states of its copies (0 not started, 1 cut, 2 finished), and the finish of the
-// finished copy, or 0.
+// What becomes of a copy.
+#[derive(Clone, Copy, PartialEq, Eq)]
+pub enum State {
+    NotStarted,
+    Cut,
+    Finished,
+}
+
+impl From<State> for u32 {
+    ghost from_gives = { λ s n. n ≡ number_of s };
+
+    fn from(s: State) -> u32 {
+        s as u32
+    }
+}
+
+// What replay writes of a task: the states of its copies, and the finish of the finished copy, or 0.
 #[derive(Clone, Copy)]
 pub struct Outcome {
-    pub primary: u32,
-    pub backup: u32,
+    pub primary: State,
+    pub backup: State,
     pub finish: u32,
 }
 
-// The copies of a task at its place, as they end: after the ticks in `took`, where some are given, else after the listed ones. `own` is the
-// primary's node, `other` the backup's. Whether the loss of the primary is known in time goes by its listed run time.
-pub fn pair_of(t: Task, x: Place, given: bool, took: Took, own: Node, other: Node) -> Pair
-    requires { PairFits t x (picked given took (listed_at t x)) own.detect }
-    ensures { result ≡ pair_at t x (picked given took (listed_at t x)) own other }
+// The copies of a task at its place, as they end after the ticks in `took`. `own` is the primary's node, `other` the backup's. Whether the loss
+// of the primary is known in time goes by its listed run time.
+pub fn pair_of(t: Task, x: Place, took: Took, own: Node, other: Node) -> Pair
+    requires { PairFits t x took own.detect }
+    ensures { result ≡ pair_at t x took own other }
 {
     let p = x.primary_node as usize;
-    let b = x.backup_node as usize;
-    let run = t.run[p];
-    let finish = x.primary_start + pick(given, took.primary, run);
-    let listed = x.primary_start + run;
+    let finish = x.primary_start + took.primary;
+    let listed = x.primary_start + t.run[p];
     Pair {
         primary: Copy {
             node: x.primary_node,
@@ -51,7 +61,7 @@ pub fn pair_of(t: Task, x: Place, given: bool, took: Took, own: Node, other: Nod
         backup: Copy {
             node: x.backup_node,
             start: x.backup_start,
-            finish: x.backup_start + pick(given, took.backup, t.run[b]),
+            finish: x.backup_start + took.backup,
         },
         primary_group: own.group,
         backup_group: other.group,
@@ -60,25 +70,25 @@ pub fn pair_of(t: Task, x: Place, given: bool, took: Took, own: Node, other: Nod
 }
 
 // What becomes of a copy, on a node of this group, that may start, or may not.
-pub fn state_of(loss: Loss, may: bool, c: Copy, group: u32) -> u32
-    ensures { (job : Job) → domain job c.node ≡ group → result ≡ state_number (attempt job loss may c) }
+pub fn state_of(loss: Loss, may: bool, c: Copy, group: u32) -> State
+    ensures { (job : Job) → domain job c.node ≡ group → result ≡ state (attempt job loss may c) }
 {
     if !may {
-        return 0;
+        return State::NotStarted;
     }
     let Loss::Lost(q, f) = loss else {
-        return 2;
+        return State::Finished;
     };
     if group != q {
-        return 2;
+        return State::Finished;
     }
     if f <= c.start {
-        return 0;
+        return State::NotStarted;
     }
     if f < c.finish {
-        return 1;
+        return State::Cut;
     }
-    2
+    State::Finished
 }
 
 // What a task comes to, of whose copies it is known from when all that they wait for is there.
@@ -87,33 +97,24 @@ pub fn settle(x: Pair, ready: u32, ready_backup: u32, loss: Loss) -> Outcome
 {
     let p = x.primary;
     let b = x.backup;
-    let a = state_of(loss, ready <= p.start, p, x.primary_group);
-    if a == 2 {
+    let primary = state_of(loss, ready <= p.start, p, x.primary_group);
+    if primary == State::Finished {
         return Outcome {
-            primary: 2,
-            backup: 0,
+            primary,
+            backup: State::NotStarted,
             finish: p.finish,
         };
     }
-    let may = both(x.detected, ready_backup <= b.start);
-    let s = state_of(loss, may, b, x.backup_group);
-    if s == 2 {
-        return Outcome {
-            primary: a,
-            backup: 2,
-            finish: b.finish,
-        };
-    }
+    let may = x.detected && ready_backup <= b.start;
+    let backup = state_of(loss, may, b, x.backup_group);
+    let finish = if backup == State::Finished {
+        b.finish
+    } else {
+        0
+    };
     Outcome {
-        primary: a,
-        backup: s,
-        finish: 0,
+        primary,
+        backup,
+        finish,
     }
-}
-
-// A function of its own, so that what it says is known behind the place where its branches meet.
-pub fn both(a: bool, b: bool) -> bool
-    ensures { result ≡ (a and b) }
-{
-    a && b
 }

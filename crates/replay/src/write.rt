@@ -14,8 +14,8 @@ pub fn put_outcome(d: &mut [u8], at: usize, o: Outcome)
     requires { at + 12 ≤ length d.old }
     ensures { d.new ≡ splice d.old at (pack (numbers o)) }
 {
-    put_number(d, at, o.primary);
-    put_number(d, at + 4, o.backup);
+    put_number(d, at, u32::from(o.primary));
+    put_number(d, at + 4, u32::from(o.backup));
     put_number(d, at + 8, o.finish);
 }
 
@@ -24,10 +24,7 @@ pub fn write_outcomes(o: Outcomes, n: usize, out: &mut [u8])
     requires { (n ≤ max_tasks) × (12 * n ≤ length out.old) }
     ensures { out.new ≡ outcome_bytes o n ++ drop (12 * n) out.old }
 {
-    let mut j: usize = 0;
-    while j < n {
-        let x = o.of[j];
-        put_outcome(out, 12 * j, x);
-        j += 1;
+    for j in 0..n {
+        put_outcome(out, 12 * j, o.of[j]);
     }
 }
