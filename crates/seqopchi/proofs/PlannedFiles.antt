@@ -12,15 +12,15 @@ use Rattle.reader.specs.Entries.{tasks}
 use Rattle.reader.specs.Sound.{Sound, PlanSound}
 use Rattle.reader.specs.Refusals.{answered, result_number}
 use Rattle.reader.specs.JobFile.{job_fault, job_at}
-use Rattle.reader.specs.PlanFile.{plan_length, plan_fault, plan_at, read_plan}
+use Rattle.reader.specs.PlanFile.{plan_length, plan_at}
 use Rattle.reader.proofs.FirstLaws.{or_else_l, or_else_r, or_else_i}
 use Rattle.reader.proofs.TestLaws.{never}
 use Rattle.reader.proofs.RefusalLaws.{answered_done}
-use Rattle.reader.proofs.Promise.{job_sound, none_value}
+use Rattle.reader.proofs.Promise.{job_sound}
 use Rattle.reader.proofs.PackingLaws.{result_done}
 use Rattle.writer.specs.Write.{plan_bytes}
 use Rattle.writer.proofs.SoundReads.{sound_plan_reads}
-use Rattle.writer.proofs.SoundWrites.{sound_plan_length, filled_plan_reread}
+use Rattle.writer.proofs.SoundWrites.{sound_plan_length, filled_plan_again}
 use Rattle.rules.specs.Rules.{rows}
 use Rattle.rules.specs.Judge.{breach, judge}
 use Rattle.rules.specs.Attempts.{Attempt, refused, placed}
@@ -39,11 +39,7 @@ module _ (job : Job) (sound : Sound job) (plan : Plan) (h : planner job ≡ plac
 
   -- the planner's plan reads back from its own bytes
   pub read_back : plan_at (plan_bytes plan) (tasks job) ≡ plan
-  unfolding read_plan
-  read_back =
-      let places = planned_places job sound plan h in
-      sym (none_value (plan_fault (plan_bytes plan) job) _ _ (sound_plan_reads job plan sound plan_sound))
-      ∙ filled_plan_reread job plan places.0 sound plan_sound places.1
+  read_back = let places = planned_places job sound plan h in filled_plan_again job plan places.0 sound plan_sound places.1
 
   no_breach : breach job (rows job (plan_at (plan_bytes plan) (tasks job))) ≡ none
   unfolding judge

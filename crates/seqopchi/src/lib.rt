@@ -3,14 +3,15 @@
 
 ghost use Rattle.std.specs.Prelude.{◌+◌, ◌*◌, ◌≤◌, [], ◌∷◌, ◌≡◌, length, get_or, eqb};
 ghost use Rattle.std.proofs.Math.Option.{none, some};
-ghost use Rattle.reader.specs.declared.job.Job.{Job};
-ghost use Rattle.reader.specs.First.{when, any};
+ghost use Rattle.reader.specs.First.{any};
 ghost use Rattle.reader.specs.Entries.{nodes as nodes_of, no_node};
 ghost use Rattle.reader.specs.Limits.{max_nodes, max_tasks};
-ghost use Rattle.reader.specs.Refusals.{answered, result_number};
+ghost use Rattle.reader.specs.Refusals.{resulted, answered, result_number};
+ghost use Rattle.reader.specs.JobFile.{job_at};
 ghost use Rattle.writer.specs.Puts.{Rows};
+ghost use Rattle.replay.specs.TimesFile.{list_of};
 ghost use Rattle.rules.specs.declared.Loss.TheVariants.{NoLoss, Lost};
-ghost use Rattle.seqopchi.specs.Files.{judge_files, plan_file, loss_fault, replay_files, sets_files};
+ghost use Rattle.seqopchi.specs.Files.{plan_in, files_fault, judge_files, plan_file, loss_fault, replay_files, sets_files};
 
 use copies::table::Copies;
 use judge::judge_plan;
@@ -18,124 +19,79 @@ use judge::sets::plan_sets;
 use planner::plan_job;
 use reader::job::{Job, Node};
 use reader::job_file::read_job;
+use reader::plan::Plan;
 use reader::plan_file::read_plan;
-use reader::refusal::{Answer, Refusal};
+use reader::refusal::{Refusal, result_number};
 use replay::replay_into;
 use replay::times_file::read_list;
 use rules::Loss;
-use writer::{put_number, put_plan};
+use writer::{put_number, put_plan, room};
 
-fn judge_files(job: &[u8], plan: &[u8]) -> Answer
+// A job file, and then a plan file.
+pub fn read_files(job: &[u8], plan: &[u8]) -> Result<(Job, Plan), Refusal>
+    ensures { result ≡ resulted (files_fault job.now plan.now) (job_at job.now, plan_in job.now plan.now) }
+{
+    let job = read_job(job)?;
+    let plan = read_plan(plan, job)?;
+    Ok((job, plan))
+}
+
+fn judge_files(job: &[u8], plan: &[u8]) -> Result<(), Refusal>
     ensures { result ≡ answered (judge_files job.now plan.now) }
 {
-    let read = read_job(job);
-    let bad_job = read.answer;
-    let Answer::Done = bad_job else {
-        return bad_job;
-    };
-    let value = read.job;
-    let placed = read_plan(plan, value);
-    let bad_plan = placed.answer;
-    let Answer::Done = bad_plan else {
-        return bad_plan;
-    };
-    let places = placed.plan;
-    judge_plan(value, places)
+    let (job, plan) = read_files(job, plan)?;
+    judge_plan(job, plan)
 }
 
-fn plan_file(job: &[u8], out: &mut [u8]) -> Answer
+fn plan_file(job: &[u8], out: &mut [u8]) -> Result<(), Refusal>
     ensures { plan_file job.now out.old ≡ record { answer = result; buffer = out.new } }
 {
-    let read = read_job(job);
-    let bad_job = read.answer;
-    let Answer::Done = bad_job else {
-        return bad_job;
-    };
-    let need = 8 + 16 * (read.job.task_count as usize);
-    if out.len() < need {
-        return Answer::Refused(Refusal::ShortBuffer(need));
-    }
-    let value = read.job;
-    match plan_job(value) {
-        Ok(plan) => {
-            put_plan(out, plan);
-            Answer::Done
-        }
-        Err(refusal) => Answer::Refused(refusal),
-    }
+    let job = read_job(job)?;
+    let need = 8 + 16 * (job.task_count as usize);
+    room(out, need)?;
+    let plan = plan_job(job)?;
+    put_plan(out, &plan);
+    Ok(())
 }
 
-// Whether one of the first n nodes is in group q.
-fn has_node(nodes: [Node; Job::MAX_NODES], n: usize, q: u32) -> bool
-    requires { n ≤ max_nodes }
-    ensures { result ≡ any n (λ i. eqb (get_or nodes i no_node).group q) }
+// Whether one of these nodes is in group q.
+fn has_node(nodes: &[Node], q: u32) -> bool
+    ensures { result ≡ any (length nodes.now) (λ i. eqb (get_or nodes.now i no_node).group q) }
 {
-    let mut i: usize = 0;
-    while i < n {
-        let node = nodes[i];
-        if node.group == q {
-            return true;
-        }
-        i += 1;
-    }
-    false
+    nodes.iter().any(|node| node.group == q)
 }
 
-// Whether the lost group, if any, is that of one of the first n nodes.
-fn lost_group(loss: Loss, nodes: [Node; Job::MAX_NODES], n: usize) -> Answer
-    requires { n ≤ max_nodes }
-    ensures { ((job : Job) → job.nodes ≡ nodes → nodes_of job ≡ n → result ≡ answered (loss_fault job loss)) }
+// Whether the lost group, if any, has a node of the job.
+fn lost_group(loss: Loss, job: &Job) -> Result<(), Refusal>
+    requires { nodes_of job.now ≤ max_nodes }
+    ensures { result ≡ answered (loss_fault job.now loss) }
 {
     let Loss::Lost(q, _) = loss else {
-        return Answer::Done;
+        return Ok(());
     };
-    if has_node(nodes, n, q) {
-        return Answer::Done;
+    if has_node(&job.nodes[..job.node_count as usize], q) {
+        return Ok(());
     }
-    Answer::Refused(Refusal::NoSuchNode(q))
+    Err(Refusal::NoSuchNode(q))
 }
 
-// With the times of the list, where one is given. Where none is, copies take the listed times, and what stands for the list says nothing.
+// With the times of the list, where one is given; where none is, copies take the listed times.
 fn replay_files(
     job: &[u8],
     plan: &[u8],
     loss: Loss,
-    given: bool,
-    list: &[u8],
+    list: Option<&[u8]>,
     out: &mut [u8],
-) -> Answer
-    ensures { replay_files job.now plan.now loss (when given list.now) out.old
+) -> Result<(), Refusal>
+    ensures { replay_files job.now plan.now loss (list_of list.entry) out.old
         ≡ record { answer = result; buffer = out.new } }
 {
-    let read = read_job(job);
-    let bad_job = read.answer;
-    let Answer::Done = bad_job else {
-        return bad_job;
-    };
-    let value = read.job;
-    let placed = read_plan(plan, value);
-    let bad_plan = placed.answer;
-    let Answer::Done = bad_plan else {
-        return bad_plan;
-    };
-    let nodes = value.nodes;
-    let no_node = lost_group(loss, nodes, value.node_count as usize);
-    let Answer::Done = no_node else {
-        return no_node;
-    };
-    let places = placed.plan;
-    let took = read_list(value, places, given, list);
-    let bad_list = took.answer;
-    let Answer::Done = bad_list else {
-        return bad_list;
-    };
-    let need = 12 * (value.task_count as usize);
-    if out.len() < need {
-        return Answer::Refused(Refusal::ShortBuffer(need));
-    }
-    let times = took.times;
-    replay_into(value, places, given, times, loss, out);
-    Answer::Done
+    let (job, plan) = read_files(job, plan)?;
+    lost_group(loss, &job)?;
+    let times = read_list(job, plan, list)?;
+    room(out, 12 * (job.task_count as usize))?;
+    replay_into(job, plan, times.as_ref(), loss, out);
+    Ok(())
 }
 
 // Puts the fault sets of the first n tasks, entries of the table of copies, from the buffer's front.
@@ -143,42 +99,26 @@ fn put_sets(out: &mut [u8], sets: [u32; Copies::COUNT], n: usize)
     requires { (n ≤ max_tasks) × (4 * n ≤ length out.old) }
     ensures { Rows (λ j. get_or sets (2 * j + 1) 0 ∷ []) 4 out.old 0 n out.new (4 * n) }
 {
-    let mut j: usize = 0;
-    while j < n {
+    for j in 0..n {
         put_number(out, 4 * j, sets[2 * j + 1]);
-        j += 1;
     }
 }
 
-fn sets_files(job: &[u8], plan: &[u8], out: &mut [u8]) -> Answer
+fn sets_files(job: &[u8], plan: &[u8], out: &mut [u8]) -> Result<(), Refusal>
     ensures { sets_files job.now plan.now out.old ≡ record { answer = result; buffer = out.new } }
 {
-    let read = read_job(job);
-    let bad_job = read.answer;
-    let Answer::Done = bad_job else {
-        return bad_job;
-    };
-    let value = read.job;
-    let placed = read_plan(plan, value);
-    let bad_plan = placed.answer;
-    let Answer::Done = bad_plan else {
-        return bad_plan;
-    };
-    let n = value.task_count as usize;
-    if out.len() < 4 * n {
-        return Answer::Refused(Refusal::ShortBuffer(4 * n));
-    }
-    let places = placed.plan;
-    let sets = plan_sets(value, places);
-    put_sets(out, sets, n);
-    Answer::Done
+    let (job, plan) = read_files(job, plan)?;
+    let n = job.task_count as usize;
+    room(out, 4 * n)?;
+    put_sets(out, plan_sets(job, plan), n);
+    Ok(())
 }
 
 // Judges a job file and a plan file.
 pub fn seqopchi_judge(job: &[u8], plan: &[u8]) -> u64
     ensures { result ≡ result_number (answered (judge_files job.now plan.now)) }
 {
-    judge_files(job, plan).result()
+    result_number(judge_files(job, plan))
 }
 
 // Plans a job file into a buffer, as a plan file.
@@ -186,7 +126,7 @@ pub fn seqopchi_plan(job: &[u8], out: &mut [u8]) -> u64
     ensures { (result ≡ result_number (plan_file job.now out.old).answer)
         × (out.new ≡ (plan_file job.now out.old).buffer) }
 {
-    plan_file(job, out).result()
+    result_number(plan_file(job, out))
 }
 
 // Replays two files with no loss: three numbers for each task.
@@ -194,7 +134,7 @@ pub fn seqopchi_replay(job: &[u8], plan: &[u8], out: &mut [u8]) -> u64
     ensures { (result ≡ result_number (replay_files job.now plan.now NoLoss none out.old).answer)
         × (out.new ≡ (replay_files job.now plan.now NoLoss none out.old).buffer) }
 {
-    replay_files(job, plan, Loss::NoLoss, false, &job[..0], out).result()
+    result_number(replay_files(job, plan, Loss::NoLoss, None, out))
 }
 
 // The same, with a group lost at a moment: every node of it.
@@ -202,7 +142,7 @@ pub fn seqopchi_replay_loss(job: &[u8], plan: &[u8], group: u32, moment: u32, ou
     ensures { (result ≡ result_number (replay_files job.now plan.now (Lost group moment) none out.old).answer)
         × (out.new ≡ (replay_files job.now plan.now (Lost group moment) none out.old).buffer) }
 {
-    replay_files(job, plan, Loss::Lost(group, moment), false, &job[..0], out).result()
+    result_number(replay_files(job, plan, Loss::Lost(group, moment), None, out))
 }
 
 // Replays two files with no loss, each copy taking the ticks that a list says.
@@ -210,7 +150,7 @@ pub fn seqopchi_replay_times(job: &[u8], plan: &[u8], times: &[u8], out: &mut [u
     ensures { (result ≡ result_number (replay_files job.now plan.now NoLoss (some times.now) out.old).answer)
         × (out.new ≡ (replay_files job.now plan.now NoLoss (some times.now) out.old).buffer) }
 {
-    replay_files(job, plan, Loss::NoLoss, true, times, out).result()
+    result_number(replay_files(job, plan, Loss::NoLoss, Some(times), out))
 }
 
 // The same, with a group lost at a moment.
@@ -227,7 +167,7 @@ pub fn seqopchi_replay_times_loss(
         × (out.new ≡ (replay_files job.now plan.now (Lost group moment) (some times.now)
         out.old).buffer) }
 {
-    replay_files(job, plan, Loss::Lost(group, moment), true, times, out).result()
+    result_number(replay_files(job, plan, Loss::Lost(group, moment), Some(times), out))
 }
 
 // The fault sets of two files, passed or not: a number for each task, bit q for group q.
@@ -235,5 +175,5 @@ pub fn seqopchi_fault_sets(job: &[u8], plan: &[u8], out: &mut [u8]) -> u64
     ensures { (result ≡ result_number (sets_files job.now plan.now out.old).answer)
         × (out.new ≡ (sets_files job.now plan.now out.old).buffer) }
 {
-    sets_files(job, plan, out).result()
+    result_number(sets_files(job, plan, out))
 }

@@ -1,57 +1,59 @@
 -- Replay's calls: a refusal of a file, of the lost group, of the list or of the buffer, or what replay writes.
-use mathlib.Core.Path.{refl}
-use Rattle.seqopchi.proofs.ReadLaws.{job_sound, job_stops, plan_stops, files_done, both_sound}
-use Rattle.seqopchi.proofs.ReadLaws.{replay_stops, no_node_lem, bad_list, times_within, no_room, replayed}
+use Rattle.reader.proofs.Chain.{stop}
+use Rattle.reader.proofs.NumberLaws.{is_none, is_value, is_fault}
+use Rattle.seqopchi.specs.Files.{replay_fault, replay_files}
+use Rattle.seqopchi.proofs.ReadLaws.{hands, roomy, files_bad, files_done, both_sound, bad_group, bad_list, bad_room, times_within, replayed}
 use Rattle.seqopchi.proofs.replay_files.Goals as goal
 
-pub returns-in_default : goal.returns-in_default
-returns-in_default c = replay_stops _ _ _ (job_stops _ _ c.read_job-read.ensures _ c.in_default.is) c.in_default.is _ _ _
+pub returns-in_err-job : goal.returns-in_err-job
+unfolding replay_files replay_fault
+returns-in_err-job c =
+    hands _ _ _ c.from_residual.ensures.1 (stop _ (files_bad _ _ c.read_files.ensures c.in_err-job.was))
 
-pub read_plan-placed-requires : goal.read_plan-placed-requires
-read_plan-placed-requires c = job_sound _ _ c.read_job-read.ensures c.in-Done.is
+pub lost_group-requires : goal.lost_group-requires
+lost_group-requires c = (both_sound _ _ _ _ (files_done _ _ c.read_files.ensures c.in_ok-job.was)).0.nodes_most
 
-pub returns-in_default-bad_plan : goal.returns-in_default-bad_plan
-returns-in_default-bad_plan c =
-    let bad = plan_stops _ _ c.read_job-read.ensures c.in-Done.is _ _
-    c.read_plan-placed.ensures c.in_default-bad_plan.is in
-    replay_stops _ _ _ bad c.in_default-bad_plan.is _ _ _
+pub returns-in_err-lost_group : goal.returns-in_err-lost_group
+unfolding replay_files
+returns-in_err-lost_group c =
+    hands _ _ _ c.from_residual-in_err-lost_group.ensures.1
+    (bad_group _ _ _ _ (files_done _ _ c.read_files.ensures c.in_ok-job.was) _ _ _ (is_fault _ _ _ c.lost_group.ensures c.in_err-lost_group.was))
 
-pub lost_group-no_node-requires : goal.lost_group-no_node-requires
-lost_group-no_node-requires c =
-    (both_sound _ _ _ _ (files_done _ _ c.read_job-read.ensures c.in-Done.is _ _ c.read_plan-placed.ensures c.in-Done-bad_plan.is)).0.nodes_most
+pub read_list-requires : goal.read_list-requires
+read_list-requires c = both_sound _ _ _ _ (files_done _ _ c.read_files.ensures c.in_ok-job.was)
 
-pub returns-in_default-no_node : goal.returns-in_default-no_node
-returns-in_default-no_node c =
-    no_node_lem _ _ _ _ (files_done _ _ c.read_job-read.ensures c.in-Done.is _ _ c.read_plan-placed.ensures c.in-Done-bad_plan.is) _ _ _ _
-    (c.lost_group-no_node.ensures _ refl refl) c.in_default-no_node.is
+pub returns-in_err-times : goal.returns-in_err-times
+unfolding replay_files
+returns-in_err-times c =
+    let there = is_none _ _ _ c.lost_group.ensures c.in_ok-lost_group.was in
+    hands _ _ _ c.from_residual-in_err-times.ensures.1
+    (bad_list _ _ _ _ (files_done _ _ c.read_files.ensures c.in_ok-job.was) _ _ _ there (is_fault _ _ _ c.read_list.ensures c.in_err-times.was))
 
-pub read_list-took-requires : goal.read_list-took-requires
-read_list-took-requires c =
-    both_sound _ _ _ _ (files_done _ _ c.read_job-read.ensures c.in-Done.is _ _ c.read_plan-placed.ensures c.in-Done-bad_plan.is)
-
-pub returns-in_default-bad_list : goal.returns-in_default-bad_list
-returns-in_default-bad_list c =
-    let files = (files_done _ _ c.read_job-read.ensures c.in-Done.is _ _ c.read_plan-placed.ensures c.in-Done-bad_plan.is) in
-    bad_list _ _ _ _ files _ _ _ _ (c.lost_group-no_node.ensures _ refl refl) c.in-Done-no_node.is _ _
-    c.read_list-took.ensures c.in_default-bad_list.is
-
-pub returns-then-out-need : goal.returns-then-out-need
-returns-then-out-need c =
-    let files = (files_done _ _ c.read_job-read.ensures c.in-Done.is _ _ c.read_plan-placed.ensures c.in-Done-bad_plan.is) in
-    no_room _ _ _ _ files _ _ _ _ (c.lost_group-no_node.ensures _ refl refl) c.in-Done-no_node.is _ _
-    c.read_list-took.ensures c.in-Done-bad_list.is c.if-out-need.true
+pub returns-in_err-room : goal.returns-in_err-room
+unfolding replay_files
+returns-in_err-room c =
+    let files = files_done _ _ c.read_files.ensures c.in_ok-job.was in
+    let there = is_none _ _ _ c.lost_group.ensures c.in_ok-lost_group.was in
+    let list = c.read_list.ensures in
+    let q = c.in_ok-times.was in
+    hands _ _ _ c.from_residual-in_err-room.ensures.1
+    (bad_room _ _ _ _ files _ _ _ there (is_none _ _ _ list q) _ (is_value _ _ _ list q) (is_fault _ _ _ c.room.ensures.answer c.in_err-room.was))
 
 pub replay_into-requires : goal.replay_into-requires
 replay_into-requires c =
-    let files = (files_done _ _ c.read_job-read.ensures c.in-Done.is _ _ c.read_plan-placed.ensures c.in-Done-bad_plan.is) in
+    let files = files_done _ _ c.read_files.ensures c.in_ok-job.was in
+    let there = is_none _ _ _ c.lost_group.ensures c.in_ok-lost_group.was in
+    let list = c.read_list.ensures in
+    let q = c.in_ok-times.was in
     let both = both_sound _ _ _ _ files in
-    let within = times_within _ _ _ _ files _ _ _ c.read_list-took.ensures
-    c.in-Done-bad_list.is in
-    (both.0, both.1, within, c.if-out-need.false)
+    let within = times_within _ _ _ _ files _ _ c.args.out.now there (is_none _ _ _ list q) _ (is_value _ _ _ list q) in
+    (both.0, both.1, rw c.as_ref.ensures.value within, roomy _ _ (is_none _ _ _ c.room.ensures.answer c.in_ok-room.was))
 
 pub returns : goal.returns
 returns c =
-    let files = (files_done _ _ c.read_job-read.ensures c.in-Done.is _ _ c.read_plan-placed.ensures c.in-Done-bad_plan.is) in
-    replayed _ _ _ _ files _ _ _ _ (c.lost_group-no_node.ensures _ refl refl) c.in-Done-no_node.is _ _
-    c.read_list-took.ensures c.in-Done-bad_list.is c.if-out-need.false _
-    c.replay_into.ensures
+    let files = files_done _ _ c.read_files.ensures c.in_ok-job.was in
+    let there = is_none _ _ _ c.lost_group.ensures c.in_ok-lost_group.was in
+    let list = c.read_list.ensures in
+    let q = c.in_ok-times.was in
+    replayed _ _ _ _ files _ _ _ there (is_none _ _ _ list q) _ (is_value _ _ _ list q) (is_none _ _ _ c.room.ensures.answer c.in_ok-room.was) _
+    (rw c.as_ref.ensures.value at c.replay_into.ensures)

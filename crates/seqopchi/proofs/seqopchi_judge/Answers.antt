@@ -4,4 +4,4 @@ use Rattle.reader.specs.Refusals.{result_number}
 use Rattle.seqopchi.proofs.seqopchi_judge.Goals as goal
 
 pub returns : goal.returns
-returns c = c.result.ensures ∙ ap result_number c.judge_files.ensures
+returns c = c.result_number.ensures ∙ ap result_number c.judge_files.ensures

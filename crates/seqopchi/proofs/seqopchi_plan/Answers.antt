@@ -3,4 +3,4 @@ use Rattle.seqopchi.proofs.ReadLaws.{given}
 use Rattle.seqopchi.proofs.seqopchi_plan.Goals as goal
 
 pub returns : goal.returns
-returns c = given c.plan_file.ensures c.result.ensures
+returns c = given c.plan_file.ensures c.result_number.ensures

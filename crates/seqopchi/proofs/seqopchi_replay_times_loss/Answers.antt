@@ -1,8 +1,6 @@
 -- `seqopchi::seqopchi_replay_times_loss` meets its contract.
-use Rattle.reader.specs.First.{when}
 use Rattle.seqopchi.proofs.ReadLaws.{given}
 use Rattle.seqopchi.proofs.seqopchi_replay_times_loss.Goals as goal
 
 pub returns : goal.returns
-unfolding when
-returns c = given c.replay_files.ensures c.result.ensures
+returns c = given c.replay_files.ensures c.result_number.ensures
