@@ -9,7 +9,6 @@ use Rattle.reader.specs.declared.plan.Plan.{Plan}
 use Rattle.reader.specs.declared.refusal.Refusal.{Refusal}
 use Rattle.reader.specs.declared.refusal.Refusal.TheVariants.{Stale}
 use Rattle.reader.specs.Refusals.{Answer}
-use Rattle.std.specs.Prelude.{Ok, Err}
 use Rattle.reader.specs.Entries.{tasks}
 use Rattle.reader.specs.Sound.{Sound, PlanSound}
 use Rattle.reader.proofs.RefusalLaws.{answered_done, answered_refused}
@@ -23,11 +22,9 @@ use Rattle.rules.specs.Asking.{ask, longer, unless_stale, commit}
 use Rattle.rules.proofs.ExtendLaws.{rows_to_same}
 use Rattle.rules.proofs.LongerLaws.{longer_extends, longer_sound, longer_planned}
 use Rattle.planner.specs.declared.board.Pair.{Pair}
-use Rattle.planner.specs.Tasks.{pair_row, attempted}
-use Rattle.asking.specs.declared.Asked.{Asked}
-use Rattle.asking.specs.declared.Committed.{Committed}
+use Rattle.planner.specs.Tasks.{pair_row, attempted, place_with}
 use Rattle.asking.specs.Beside.{place_new}
-use Rattle.asking.specs.Calls.{Asking, Committing, placeless, asked, bookless, committed}
+use Rattle.asking.specs.Calls.{Asking, Committing, asked, committed}
 
 module _ (job : Job) (plan : Plan) (d : Description) (ok : Asking job plan d) where
   pub big_sound : (big : Job) → big ≡ longer_job job d → Sound big
@@ -43,13 +40,13 @@ module _ (job : Job) (plan : Plan) (d : Description) (ok : Asking job plan d) (x
       let same = rows_to_same job (longer_job job d) ext plan plan n (omega arith) (λ j p. refl) in
       sym (ap (λ a. a >>= λ r. placed (place_of r)) (told ∙ ap (λ t. place_task (longer_job job d) (anywhere n) n t n) same))
 
-  pub ask_nowhere : (r : Refusal) → x ≡ Err r → (a : Asked) → a ≡ placeless (Err r) → a ≡ asked (ask job plan d)
+  pub ask_nowhere : (r : Refusal) → x ≡ Err r → Err r ≡ asked (ask job plan d)
   unfolding attempted ◌>>=◌ asked
-  ask_nowhere r e a h = let nowhere : ask job plan d ≡ refused r = asks ∙ rw e in rw nowhere h
+  ask_nowhere r e = let nowhere : ask job plan d ≡ refused r = asks ∙ rw e in rw nowhere
 
-  pub ask_at : (pair : Pair) → x ≡ Ok pair → (a : Asked) → a ≡ asked (placed (place_of (pair_row pair))) → a ≡ asked (ask job plan d)
-  unfolding attempted ◌>>=◌
-  ask_at pair e a h = let there : ask job plan d ≡ placed (place_of (pair_row pair)) = asks ∙ rw e in rw there h
+  pub ask_at : (pair : Pair) → x ≡ Ok pair → (a : Place) → a ≡ place_with pair.primary pair.backup → Ok a ≡ asked (ask job plan d)
+  unfolding attempted ◌>>=◌ asked place_of
+  ask_at pair e a h = let there : ask job plan d ≡ placed (place_of (pair_row pair)) = asks ∙ rw e in rw (there, h)
 
 -- a commit
 module _ (job : Job) (plan : Plan) (d : Description) (x : Place) (ok : Committing job plan d x)
@@ -63,15 +60,14 @@ module _ (job : Job) (plan : Plan) (d : Description) (x : Place) (ok : Committin
     told : a ≡ judge (longer_job job d) (longer_plan job plan x)
     told = ea ∙ ap₂ (λ b l. judge b l) is il
 
-    pub commit_done : a ≡ Ok tt → ◌≡◌ {A = Committed} (record { answer = Ok tt; job = big; plan = long }) (committed (commit job plan d x))
+    pub commit_done : a ≡ Ok tt → Ok (big, long) ≡ committed (commit job plan d x)
     unfolding judge commit unless_stale longer committed
     commit_done q =
         let fine : breach (longer_job job d) (rows (longer_job job d) (longer_plan job plan x)) ≡ none = (answered_done _).0 (sym told ∙ q) in
         rw (fine, is, il)
 
-    pub commit_refused : {y : Refusal} → a ≡ Err y → (c : Committed) → c ≡ bookless (Err (Stale (tasks job)))
-        → c ≡ committed (commit job plan d x)
+    pub commit_refused : {y : Refusal} → a ≡ Err y → Err (Stale (tasks job)) ≡ committed (commit job plan d x)
     unfolding judge commit unless_stale committed
-    commit_refused {y} q c h =
+    commit_refused {y} q =
         let bad : breach (longer_job job d) (rows (longer_job job d) (longer_plan job plan x)) ≡ some y = (answered_refused _ y).0 (sym told ∙ q) in
-        h ∙ rw bad
+        rw bad

@@ -1,17 +1,19 @@
 -- Laws of reading a description, a question and a booking: each section behind those that passed.
 use Prim.Native.Nat.{ℕ, ◌+◌, ◌*◌, ◌≤◌, ◌<◌}
-use mathlib.Core.Path.{◌≡◌, refl, sym, ap, ap₂, ◌∙◌, subst}
+use mathlib.Core.Path.{◌≡◌, sym, ap, ap₂, ◌∙◌}
 use mathlib.Core.List.{List}
+use mathlib.Core.Option.{none, some}
 use lib.ListN.{length}
 use native.Mathlib.Omega.{arith}
+use Rattle.std.specs.Prelude.{Result, Ok}
 use Rattle.reader.specs.declared.job.Job.{Job}
-use Rattle.reader.specs.declared.job_file.OneTask.{OneTask}
-use Rattle.reader.specs.declared.job_file.Links.{Links}
+use Rattle.reader.specs.declared.job.Link.{Link}
+use Rattle.reader.specs.declared.job.Task.{Task}
+use Rattle.reader.specs.declared.job_file.Section.{Section}
 use Rattle.reader.specs.declared.plan.Place.{Place}
 use Rattle.reader.specs.declared.refusal.Refusal.{Refusal}
 use Rattle.reader.specs.declared.refusal.Refusal.TheVariants.{Tail}
-use Rattle.reader.specs.Refusals.{Answer}
-use Rattle.std.specs.Prelude.{Ok, Err}
+use Rattle.reader.specs.Limits.{max_links}
 use Rattle.reader.specs.Entries.{nodes, tasks}
 use Rattle.reader.specs.Number.{number_at}
 use Rattle.reader.specs.Reads.{Reads}
@@ -20,100 +22,110 @@ use Rattle.reader.specs.PlanFile.{place_fault, place_at}
 use Rattle.rules.specs.declared.Description.{Description}
 use Rattle.asking.specs.DescriptionFile.{new_link_section, new_links_fault, new_links_at, description_fault, description_at, description_length}
 use Rattle.asking.specs.DescriptionFile.{question_fault, booking_fault, booked_place}
-use Rattle.reader.proofs.Chain.{pass, stop, stopped, finished, reads_none, reads_some, reads_value}
+use Rattle.reader.proofs.Chain.{pass, stop, finished, reads_none, reads_value}
 use Rattle.reader.proofs.Faultless.{good_tail}
 use Rattle.reader.proofs.JobLaws.{tail_some}
 
-module _ (s : List ℕ) (job : Job) where
-  -- links that were read at an offset
-  abbrev LinksRead : Links → ℕ → Type 0
-  LinksRead l at =
-      Reads (new_links_fault s at (tasks job)) l.answer ((l.count ≡ number_at s at) × (l.list ≡ new_links_at s at (tasks job) l.count))
+-- the task's entry is read, up to an offset
+pub record TaskRead (s : List ℕ) (job : Job) (t : Task) (at : ℕ) : Type 0 where
+  pub fine : task_fault job.version s 0 (nodes job) ≡ none
+  pub is : t ≡ task_at job.version s 0 (nodes job)
+  pub ends : at ≡ new_link_section job
 
-  -- the entry of the task
-  module _ (t : OneTask) (et : Reads (task_fault job.version s 0 (nodes job)) t.answer
-      ((t.task ≡ task_at job.version s 0 (nodes job)) × (t.end ≡ 0 + task_width job.version (nodes job)))) where
-    pub new_task_bad : {A : Type 0} {a : Answer} {r : Refusal} → t.answer ≡ Err r → a ≡ Err r → Reads (description_fault s job) a A
+pub task_read : {s : List ℕ} {job : Job} {w : Result (Task × ℕ) Refusal} {t : Task} {at : ℕ}
+    → Reads (task_fault job.version s 0 (nodes job)) w
+    (λ read. (read.0 ≡ task_at job.version s 0 (nodes job)) × (read.1 ≡ 0 + task_width job.version (nodes job)))
+    → w ≡ Ok (t, at) → TaskRead s job t at
+task_read reads q =
+    let value = reads_value reads q in
+    record { fine = reads_none reads q; is = value.0; ends = omega (arith, value.1) }
+
+pub bad_task : (s : List ℕ) (job : Job) {r : Refusal} → task_fault job.version s 0 (nodes job) ≡ some r → description_fault s job ≡ some r
+unfolding description_fault
+bad_task s job q = stop _ q
+
+-- then the links
+module _ {s : List ℕ} {job : Job} {t : Task} {at : ℕ} (task : TaskRead s job t at) where
+  links_same : new_links_fault s at (tasks job) ≡ new_links_fault s (new_link_section job) (tasks job)
+  links_same = ap (λ at. new_links_fault s at (tasks job)) task.ends
+
+  pub bad_links : {r : Refusal} → new_links_fault s at (tasks job) ≡ some r → description_fault s job ≡ some r
+  unfolding description_fault
+  bad_links q = pass _ task.fine ∙ sym links_same ∙ q
+
+  module _ {w : Result (Section Link max_links) Refusal} {ls : Section Link max_links} (reads : Reads (new_links_fault s at (tasks job)) w
+      (λ ls. (ls.count ≤ max_links) × (ls.count ≡ number_at s at) × (ls.list ≡ new_links_at s at (tasks job) ls.count)
+      × (ls.end ≡ at + 4 + 8 * ls.count))) (q : w ≡ Ok ls) where
+    abbrev read : Description
+    read = record { task = t; link_count = ls.count; links = ls.list }
+
+    is : read ≡ description_at s job
+    unfolding description_at
+    is =
+        let value = reads_value reads q in
+        let ends = task.ends in
+        let entry = task.is in
+        let count = value.1 in
+        let list = value.2 in
+        cc
+
+    ends : ls.end ≡ description_length s job
+    ends =
+        let value = reads_value reads q in
+        value.3 ∙ ap₂ (λ at m. at + 4 + 8 * m) task.ends (value.1 ∙ ap (number_at s) task.ends)
+
+    pub described : Reads {A = Description × ℕ} (description_fault s job) (Ok (read, ls.end)) (λ x. (x.0 ≡ description_at s job) × (x.1 ≡ description_length s job))
     unfolding description_fault
-    new_task_bad q told = stopped (stop _ (reads_some et q)) told
+    described = finished (pass _ task.fine ∙ sym links_same ∙ reads_none reads q) (is, ends)
 
-    -- then the links
-    module _ (qt : t.answer ≡ Ok tt) (l : Links) (el : LinksRead l t.end) where
-      section_is : t.end ≡ new_link_section job
-      section_is = omega (arith, (reads_value et qt).1)
+-- a description that was read, and its end
+pub record Described (s : List ℕ) (job : Job) (d : Description) (end : ℕ) : Type 0 where
+  pub fine : description_fault s job ≡ none
+  pub is : d ≡ description_at s job
+  pub ends : end ≡ description_length s job
 
-      links_read : LinksRead l (new_link_section job)
-      links_read = subst (LinksRead l) section_is el
+pub description_read : {s : List ℕ} {job : Job} {w : Result (Description × ℕ) Refusal} {d : Description} {end : ℕ}
+    → Reads (description_fault s job) w (λ x. (x.0 ≡ description_at s job) × (x.1 ≡ description_length s job))
+    → w ≡ Ok (d, end) → Described s job d end
+description_read reads q = let value = reads_value reads q in record { fine = reads_none reads q; is = value.0; ends = value.1 }
 
-      pub new_links_bad : {A : Type 0} {a : Answer} {r : Refusal} → l.answer ≡ Err r → a ≡ Err r → Reads (description_fault s job) a A
-      unfolding description_fault
-      new_links_bad q told = stopped (pass _ (reads_none et qt) ∙ reads_some links_read q) told
+module _ (s : List ℕ) (job : Job) {r : Refusal} (q : description_fault s job ≡ some r) where
+  pub question_bad : question_fault s job ≡ some r
+  unfolding question_fault
+  question_bad = stop _ q
 
-      module _ (q : l.answer ≡ Ok tt) where
-        abbrev read : Description
-        read = record { task = t.task; link_count = l.count; links = l.list }
+  pub booking_bad : booking_fault s job ≡ some r
+  unfolding booking_fault
+  booking_bad = stop _ q
 
-        description_is : read ≡ description_at s job
-        unfolding description_at
-        description_is =
-            let et : t.task ≡ task_at job.version s 0 (nodes job) = (reads_value et qt).0 in
-            let ec : l.count ≡ number_at s (new_link_section job) = (reads_value links_read q).0 in
-            let em : l.list ≡ new_links_at s (new_link_section job) (tasks job) l.count = (reads_value links_read q).1 in
-            cc
+module _ {s : List ℕ} {job : Job} {d : Description} {end : ℕ} (h : Described s job d end) where
+  to_tail : question_fault s job ≡ tail_fault s end
+  unfolding question_fault
+  to_tail = pass _ h.fine ∙ ap (tail_fault s) (sym h.ends)
 
-        pub described : Reads (description_fault s job) (Ok tt)
-            ((read ≡ description_at s job) × (t.end + 4 + 8 * l.count ≡ description_length s job))
-        unfolding description_fault
-        described =
-            finished (pass _ (reads_none et qt) ∙ reads_none links_read q) refl
-            (description_is, ap₂ (λ at m. at + 4 + 8 * m) section_is (reads_value links_read q).0)
+  pub question_tail : end < length s → question_fault s job ≡ some (Tail end)
+  question_tail p = to_tail ∙ tail_some s end p
 
-  -- a description that was read, and its end
-  module _ (d : Description) (end : ℕ) (a : Answer)
-      (ed : Reads (description_fault s job) a ((d ≡ description_at s job) × (end ≡ description_length s job))) where
-    pub question_bad : {A : Type 0} {r : Refusal} → a ≡ Err r → Reads (question_fault s job) a A
-    unfolding question_fault
-    question_bad q = stopped (stop _ (reads_some ed q)) q
+  pub question_done : length s ≤ end → question_fault s job ≡ none
+  question_done p = to_tail ∙ good_tail s end p
 
-    pub booking_bad : {A : Type 0} {b : Answer} {r : Refusal} → a ≡ Err r → b ≡ Err r → Reads (booking_fault s job) b A
+  -- its place
+  place_same : place_fault s end (nodes job) d.task.run ≡ place_fault s (description_length s job) (nodes job) (description_at s job).task.run
+  place_same = ap₂ (λ at x. place_fault s at (nodes job) x.task.run) h.ends h.is
+
+  pub bad_place : {r : Refusal} → place_fault s end (nodes job) d.task.run ≡ some r → booking_fault s job ≡ some r
+  unfolding booking_fault
+  bad_place q = pass _ h.fine ∙ stop _ (sym place_same ∙ q)
+
+  module _ {w : Result Place Refusal} {x : Place} (reads : Reads (place_fault s end (nodes job) d.task.run) w (λ x. x ≡ place_at s end))
+      (q : w ≡ Ok x) where
+    to_booking_tail : booking_fault s job ≡ tail_fault s (end + 16)
     unfolding booking_fault
-    booking_bad q told = stopped (stop _ (reads_some ed q)) told
+    to_booking_tail = pass _ h.fine ∙ pass _ (sym place_same ∙ reads_none reads q) ∙ ap (λ e. tail_fault s (e + 16)) (sym h.ends)
 
-    module _ (q : a ≡ Ok tt) where
-      description_read : d ≡ description_at s job
-      description_read = (reads_value ed q).0
+    pub booking_tail : end + 16 < length s → booking_fault s job ≡ some (Tail (end + 16))
+    booking_tail p = to_booking_tail ∙ tail_some s (end + 16) p
 
-      end_is : end ≡ description_length s job
-      end_is = (reads_value ed q).1
-
-      to_tail : question_fault s job ≡ tail_fault s end
-      unfolding question_fault
-      to_tail = pass _ (reads_none ed q) ∙ ap (tail_fault s) (sym end_is)
-
-      pub question_tail : {A : Type 0} {b : Answer} → end < length s → b ≡ Err (Tail end) → Reads (question_fault s job) b A
-      question_tail h told = stopped (to_tail ∙ tail_some s end h) told
-
-      pub question_done : length s ≤ end → Reads (question_fault s job) a (d ≡ description_at s job)
-      question_done h = finished (to_tail ∙ good_tail s end h) q description_read
-
-      -- its place
-      module _ (x : Place) (b : Answer) (ex : Reads (place_fault s end (nodes job) d.task.run) b (x ≡ place_at s end)) where
-        place_read : Reads (place_fault s (description_length s job) (nodes job) (description_at s job).task.run) b (x ≡ booked_place s job)
-        place_read =
-            subst (λ e. Reads (place_fault s e (nodes job) (description_at s job).task.run) b (x ≡ place_at s e)) end_is
-            (subst (λ y. Reads (place_fault s end (nodes job) y.task.run) b (x ≡ place_at s end)) description_read ex)
-
-        pub booking_place_bad : {A : Type 0} {c : Answer} {r : Refusal} → b ≡ Err r → c ≡ Err r → Reads (booking_fault s job) c A
-        unfolding booking_fault
-        booking_place_bad qb told = stopped (pass _ (reads_none ed q) ∙ stop _ (reads_some place_read qb)) told
-
-        module _ (qb : b ≡ Ok tt) where
-          to_booking_tail : booking_fault s job ≡ tail_fault s (end + 16)
-          unfolding booking_fault
-          to_booking_tail = pass _ (reads_none ed q) ∙ pass _ (reads_none place_read qb) ∙ ap (λ e. tail_fault s (e + 16)) (sym end_is)
-
-          pub booking_tail : {A : Type 0} {c : Answer} → end + 16 < length s → c ≡ Err (Tail (end + 16)) → Reads (booking_fault s job) c A
-          booking_tail h told = stopped (to_booking_tail ∙ tail_some s (end + 16) h) told
-
-          pub booking_done : length s ≤ end + 16 → Reads (booking_fault s job) (Ok tt) ((d ≡ description_at s job) × (x ≡ booked_place s job))
-          booking_done h = finished (to_booking_tail ∙ good_tail s (end + 16) h) refl (description_read, reads_value place_read qb)
+    pub booking_done : length s ≤ end + 16
+        → Reads {A = Description × Place} (booking_fault s job) (Ok (d, x)) (λ b. (b.0 ≡ description_at s job) × (b.1 ≡ booked_place s job))
+    booking_done p = finished (to_booking_tail ∙ good_tail s (end + 16) p) (h.is, reads_value reads q ∙ ap (place_at s) h.ends)

@@ -1,17 +1,14 @@
 -- Asking and committing over values: what the functions rest on, and what they give.
+use Rattle.std.specs.Prelude.{Result, Ok, Err}
 use Rattle.reader.specs.declared.job.Job.{Job}
 use Rattle.reader.specs.declared.plan.Place.{Place}
 use Rattle.reader.specs.declared.plan.Plan.{Plan}
-use Rattle.reader.specs.Refusals.{Answer}
-use Rattle.std.specs.Prelude.{Ok, Err}
-use Rattle.reader.specs.Entries.{no_place, empty_job, empty_plan}
+use Rattle.reader.specs.declared.refusal.Refusal.{Refusal}
 use Rattle.reader.specs.Sound.{Sound, PlanSound}
 use Rattle.rules.specs.declared.Description.{Description}
 use Rattle.rules.specs.Description.{NewSound, PlaceSound, Room}
 use Rattle.rules.specs.Attempts.{Attempt, refused, placed}
 use Rattle.rules.specs.Asking.{Booked}
-use Rattle.asking.specs.declared.Asked.{Asked}
-use Rattle.asking.specs.declared.Committed.{Committed}
 
 -- both files and the description read well, and there is room
 pub record Asking (job : Job) (plan : Plan) (d : Description) : Type 0 where
@@ -24,18 +21,12 @@ pub record Committing (job : Job) (plan : Plan) (d : Description) (x : Place) : 
   pub asking : Asking job plan d
   pub place : PlaceSound job d x
 
--- the answer with the place, which is all 0 on a refusal
-abbrev pub placeless : Answer → Asked
-placeless a = record { answer = a; place = no_place }
+-- the place, or the refusal
+unfoldable pub asked : Attempt Place → Result Place Refusal
+asked (placed x) = Ok x
+asked (refused r) = Err r
 
-unfoldable pub asked : Attempt Place → Asked
-asked (placed x) = record { answer = Ok tt; place = x }
-asked (refused r) = placeless (Err r)
-
--- and with the longer pair, which is empty on a refusal
-abbrev pub bookless : Answer → Committed
-bookless a = record { answer = a; job = empty_job; plan = empty_plan }
-
-unfoldable pub committed : Attempt Booked → Committed
-committed (placed b) = record { answer = Ok tt; job = b.job; plan = b.plan }
-committed (refused r) = bookless (Err r)
+-- and the longer pair
+unfoldable pub committed : Attempt Booked → Result (Job × Plan) Refusal
+committed (placed b) = Ok (b.job, b.plan)
+committed (refused r) = Err r

@@ -118,6 +118,10 @@ pub record Planning (job : Job) (net : Incoming) (j : ℕ) (board : Board) : Typ
   pub is : place_tasks job anywhere j ≡ placed (row_of board.copies)
   pub beside : Beside job j board
 
+-- where two copies are
+abbrev pub place_with : Copy → Copy → Place
+place_with p b = record { primary_node = p.node; primary_start = p.start; backup_node = b.node; backup_start = b.start }
+
 -- the places of the first n tasks, whose copies have these nodes and starts, and the plan that has them
 abbrev pub place_at : List ℕ → List ℕ → ℕ → Place
 place_at node start j =

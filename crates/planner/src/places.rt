@@ -2,7 +2,7 @@
 ghost use Rattle.std.specs.Prelude.{◌≡◌, ◌≤◌};
 ghost use Rattle.reader.specs.Limits.{max_tasks};
 ghost use Rattle.planner.specs.Search.{primary_search, backup_search};
-ghost use Rattle.planner.specs.Tasks.{listed, places_to};
+ghost use Rattle.planner.specs.Tasks.{listed, places_to, place_with};
 
 use crate::inputs::Ready;
 use crate::search::Search;
@@ -10,6 +10,7 @@ use copies::sets::ALL;
 use copies::table::Copies;
 use reader::job::Task;
 use reader::plan::{Place, Plan};
+use rules::Copy;
 
 // A primary starts no sooner than its task's ready time.
 pub fn primary_search(task: Task, nodes: usize, ready: Ready, least: u32, shut: u32) -> Search
@@ -46,6 +47,18 @@ pub fn backup_search(
     }
 }
 
+// Where two copies are.
+pub fn place_of(primary: Copy, backup: Copy) -> Place
+    ensures { result ≡ place_with primary backup }
+{
+    Place {
+        primary_node: primary.node,
+        primary_start: primary.start,
+        backup_node: backup.node,
+        backup_start: backup.start,
+    }
+}
+
 // The plan of the first n tasks, whose copies have these nodes and starts.
 pub fn plan_of(copies: &Copies, n: usize) -> Plan
     requires { n ≤ max_tasks }
@@ -54,14 +67,7 @@ pub fn plan_of(copies: &Copies, n: usize) -> Plan
     let mut plan = Plan::empty();
     for j in 0..n {
         let k = 2 * j;
-        let primary = copies.at(k);
-        let backup = copies.at(k + 1);
-        plan.places[j] = Place {
-            primary_node: primary.node,
-            primary_start: primary.start,
-            backup_node: backup.node,
-            backup_start: backup.start,
-        };
+        plan.places[j] = place_of(copies.at(k), copies.at(k + 1));
     }
     plan.task_count = n as u32;
     plan

@@ -8,17 +8,17 @@ longer_job-big-requires c = c.requires.asking.room
 pub longer_plan-long-requires : goal.longer_plan-long-requires
 longer_plan-long-requires c = c.requires.asking.room.tasks_fit
 
-pub judge_plan-judged-requires : goal.judge_plan-judged-requires
-judge_plan-judged-requires c =
+pub judge_plan-requires : goal.judge_plan-requires
+judge_plan-requires c =
     let ok = c.requires in
     (big_sound _ _ _ ok.asking _ c.longer_job-big.ensures, long_planned _ _ _ _ ok _ c.longer_job-big.ensures _ c.longer_plan-long.ensures)
 
-pub returns-in_default : goal.returns-in_default
-returns-in_default c =
+pub returns-in-Err : goal.returns-in-Err
+returns-in-Err c =
     commit_refused _ _ _ _ c.requires _ c.longer_job-big.ensures _ c.longer_plan-long.ensures _
-    c.judge_plan-judged.ensures c.in_default.is _ c.not_booked.ensures
+    c.judge_plan.ensures c.in-Err.is
 
-pub returns : goal.returns
-returns c =
+pub returns-in-Ok : goal.returns-in-Ok
+returns-in-Ok c =
     commit_done _ _ _ _ c.requires _ c.longer_job-big.ensures _ c.longer_plan-long.ensures _
-    c.judge_plan-judged.ensures c.in-Done.is
+    c.judge_plan.ensures c.in-Ok.is

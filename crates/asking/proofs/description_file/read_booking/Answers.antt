@@ -1,30 +1,27 @@
 -- A booking: a description, its place, and nothing behind it.
-use mathlib.Core.Path.{◌∙◌}
 use Rattle.asking.specs.Sizes.{sized}
-use Rattle.asking.proofs.NewFileLaws.{booking_bad, booking_place_bad, booking_tail, booking_done}
+use Rattle.reader.proofs.Chain.{stopped, broken, reads_some}
+use Rattle.asking.proofs.NewFileLaws.{description_read, booking_bad, bad_place, booking_tail, booking_done}
 use Rattle.asking.proofs.description_file.read_booking.Goals as goal
 
-pub returns-in_default : goal.returns-in_default
-returns-in_default c =
-    let read = c.read_description-d.ensures.reads in
-    let told = c.in_default.is in
-    λ job. booking_bad _ (sized job _ _ _) _ _ _ (read job) told (c.no_booking.ensures ∙ told)
+pub returns-in_err-description : goal.returns-in_err-description
+returns-in_err-description c =
+    λ job. stopped _ c.from_residual.ensures.1 (booking_bad _ (sized job _ _ _) (reads_some (c.read_description.ensures.reads job) c.in_err-description.was))
 
-pub returns-in_default-xa : goal.returns-in_default-xa
-returns-in_default-xa c =
-    let read = c.read_description-d.ensures.reads in
-    let told = c.in_default-xa.is in
-    λ job. booking_place_bad _ (sized job _ _ _) _ _ _ (read job) c.in-Done.is _ _ c.read_place-x.ensures
-    told (c.no_booking-in_default-xa.ensures ∙ told)
+pub returns-in_err-place : goal.returns-in_err-place
+returns-in_err-place c =
+    λ job.
+    let read = description_read (c.read_description.ensures.reads job) c.in_ok-description.was in
+    stopped _ c.from_residual-in_err-place.ensures.1 (bad_place read (reads_some c.read_place.ensures c.in_err-place.was))
 
 pub returns-then-end-file : goal.returns-then-end-file
 returns-then-end-file c =
-    let read = c.read_description-d.ensures.reads in
-    λ job. booking_tail _ (sized job _ _ _) _ _ _ (read job) c.in-Done.is _ _
-    c.read_place-x.ensures c.in-Done-xa.is c.if-end-file.true c.no_booking-then-end-file.ensures
+    λ job.
+    let read = description_read (c.read_description.ensures.reads job) c.in_ok-description.was in
+    broken (booking_tail read c.read_place.ensures c.in_ok-place.was c.if-end-file.true)
 
 pub returns : goal.returns
 returns c =
-    let read = c.read_description-d.ensures.reads in
-    λ job. booking_done _ (sized job _ _ _) _ _ _ (read job) c.in-Done.is _ _
-    c.read_place-x.ensures c.in-Done-xa.is c.if-end-file.false
+    λ job.
+    let read = description_read (c.read_description.ensures.reads job) c.in_ok-description.was in
+    booking_done read c.read_place.ensures c.in_ok-place.was c.if-end-file.false

@@ -1,35 +1,32 @@
 -- A description: the task's entry, then its links behind it.
-use mathlib.Core.Path.{refl, ◌∙◌}
+use mathlib.Core.Path.{refl}
 use native.Mathlib.Omega.{arith}
 use Rattle.asking.specs.Sizes.{sized}
-use Rattle.asking.proofs.NewFileLaws.{new_task_bad, new_links_bad, described}
+use Rattle.reader.proofs.Chain.{stopped, reads_some, reads_value}
+use Rattle.asking.proofs.NewFileLaws.{task_read, bad_task, bad_links, described}
 use Rattle.asking.proofs.description_file.read_description.Goals as goal
 
-pub returns-in_default : goal.returns-in_default
-returns-in_default c =
-    let told = c.in_default.is in
-    let none = c.no_description.ensures in
-    record {
-      end_bound = omega (arith, none.1);
-      reads = λ job. new_task_bad _ (sized job _ _ _) _ (c.read_task-t.ensures.by_index _ refl) told (none.0 ∙ told);
-    }
+pub returns-in_err-task-clause-reads : goal.returns-in_err-task-clause-reads
+returns-in_err-task-clause-reads c =
+    λ job. stopped _ c.from_residual.ensures.1
+    (bad_task _ (sized job _ _ _) (reads_some (c.read_task.ensures.by_index _ refl) c.in_err-task.was))
 
-pub returns-in_default-la : goal.returns-in_default-la
-returns-in_default-la c =
-    let told = c.in_default-la.is in
-    let none = c.no_description-in_default-la.ensures in
-    let task = c.read_task-t.ensures.by_index _ refl in
-    let links = c.read_new_links-l.ensures.reads in
-    record {
-      end_bound = omega (arith, none.1);
-      reads = λ job. new_links_bad _ (sized job _ _ _) _ task c.in-Done.is _ links told (none.0 ∙ told);
-    }
+pub returns-in_err-links-clause-reads : goal.returns-in_err-links-clause-reads
+returns-in_err-links-clause-reads c =
+    λ job.
+    let task = task_read {job = sized job _ _ _} (c.read_task.ensures.by_index _ refl) c.in_ok-task.was in
+    stopped _ c.from_residual-in_err-links.ensures.1 (bad_links task (reads_some c.read_new_links.ensures c.in_err-links.was))
 
-pub returns : goal.returns
-returns c =
-    let task = c.read_task-t.ensures in
-    let links = c.read_new_links-l.ensures in record {
-      end_bound = omega (arith, task.end_bound, links.count_le_max_links);
-      reads = λ job. described _ (sized job _ _ _) _ (task.by_index _ refl) c.in-Done.is _ links.reads
-          c.in-Done-la.is;
-    }
+pub overflow_cast-description : goal.overflow_cast-description
+overflow_cast-description c = omega (arith, (reads_value c.read_new_links.ensures c.in_ok-links.was).0)
+
+pub returns-clause-end_bound : goal.returns-clause-end_bound
+returns-clause-end_bound c =
+    let links = reads_value c.read_new_links.ensures c.in_ok-links.was in
+    omega (arith, c.in_ok-task.ensures.end_bound, links.0, links.3)
+
+pub returns-clause-reads : goal.returns-clause-reads
+returns-clause-reads c =
+    λ job.
+    let task = task_read {job = sized job _ _ _} (c.read_task.ensures.by_index _ refl) c.in_ok-task.was in
+    described task c.read_new_links.ensures c.in_ok-links.was

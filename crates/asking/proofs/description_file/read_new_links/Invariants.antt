@@ -1,10 +1,9 @@
--- What the loop of `asking::description_file::read_new_links` keeps, and what falls.
-use Prim.Native.Nat.{ℕ, ◌+◌, ◌*◌, ◌-◌, ◌≤◌}
+-- What the loop of `asking::description_file::read_new_links` keeps.
+use Prim.Native.Nat.{ℕ, ◌+◌, ◌*◌, ◌≤◌}
 use mathlib.Core.Path.{◌≡◌}
 use mathlib.Core.List.{List}
 use lib.ListN.{replicate}
 use Rattle.reader.specs.declared.job.Link.{Link}
-use Rattle.std.specs.Prelude.{Ok}
 use Rattle.reader.specs.Limits.{max_links}
 use Rattle.reader.specs.Entries.{no_link}
 use Rattle.reader.specs.Number.{number_at, count_fault}
@@ -19,8 +18,4 @@ Links file at n =
 
 abbrev pub invariant-loop-k : goal.invariant-loop-k
 invariant-loop-k l =
-    (l.read.answer ≡ Ok tt) × (l.count ≤ max_links) × (l.before ≡ new_link_before l.file (l.at + 4) l.tasks l.k)
-    × Links l.file l.at l.tasks l.count l.k l.read.list
-
-abbrev pub decreases-loop-k : goal.decreases-loop-k
-decreases-loop-k l = l.count - l.k
+    (l.count ≤ max_links) × (l.before ≡ new_link_before l.file (l.at + 4) l.tasks l.k) × Links l.file l.at l.tasks l.count l.k l.list

@@ -1,20 +1,19 @@
 -- A question: a description, and nothing behind it.
 use Rattle.asking.specs.Sizes.{sized}
-use Rattle.asking.proofs.NewFileLaws.{question_bad, question_tail, question_done}
+use Rattle.reader.proofs.Chain.{stopped, broken, finished, reads_some}
+use Rattle.asking.proofs.NewFileLaws.{description_read, question_bad, question_tail, question_done}
 use Rattle.asking.proofs.description_file.read_question.Goals as goal
 
-pub returns-in_default : goal.returns-in_default
-returns-in_default c =
-    let read = c.read_description-d.ensures.reads in
-    λ job. question_bad _ (sized job _ _ _) _ _ _ (read job) c.in_default.is
+pub returns-in_err-description : goal.returns-in_err-description
+returns-in_err-description c =
+    λ job. stopped _ c.from_residual.ensures.1 (question_bad _ (sized job _ _ _) (reads_some (c.read_description.ensures.reads job) c.in_err-description.was))
 
-pub returns-then-d-file : goal.returns-then-d-file
-returns-then-d-file c =
-    let read = c.read_description-d.ensures.reads in
-    λ job. question_tail _ (sized job _ _ _) _ _ _ (read job) c.in-Done.is c.if-d-file.true
-    c.no_description.ensures.0
+pub returns-then-end-file : goal.returns-then-end-file
+returns-then-end-file c =
+    λ job. broken (question_tail (description_read (c.read_description.ensures.reads job) c.in_ok-description.was) c.if-end-file.true)
 
 pub returns : goal.returns
 returns c =
-    let read = c.read_description-d.ensures.reads in
-    λ job. question_done _ (sized job _ _ _) _ _ _ (read job) c.in-Done.is c.if-d-file.false
+    λ job.
+    let read = description_read (c.read_description.ensures.reads job) c.in_ok-description.was in
+    finished (question_done read c.if-end-file.false) read.is

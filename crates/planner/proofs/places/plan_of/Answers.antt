@@ -7,7 +7,7 @@ pub loop-j-init : goal.loop-j-init
 loop-j-init c = list_start _ _ _ c.empty-plan.ensures
 
 pub loop-j-preserved : goal.loop-j-preserved
-loop-j-preserved c = rw (c.at-primary.ensures, c.at-backup.ensures) (list_more _ _ _ _ c.loop-j.invariant)
+loop-j-preserved c = rw (c.place_of.ensures, c.at.ensures, c.at-in-loop-j.ensures) (list_more _ _ _ _ c.loop-j.invariant)
 
 pub returns : goal.returns
 returns c = list_done _ _ _ _ _ (omega arith) c.loop-j.invariant
