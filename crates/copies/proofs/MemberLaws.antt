@@ -1,9 +1,9 @@
 -- The members of a set as bits: its lowest place and the others, one member less, the least member, and a bit or none.
-use Prim.Native.Nat.{ℕ, zero, suc, ◌+◌, ◌-◌, ◌*◌, ◌/◌, ◌%◌, ◌^◌, ◌≤◌, ◌<◌}
+use Prim.Native.Nat.{ℕ, zero, suc, ◌+◌, ◌-◌, ◌/◌, ◌%◌, ◌^◌, ◌≤◌, ◌<◌}
 use mathlib.Core.Bool.{Bool, true, false, not, cond}
 use mathlib.Core.Path.{◌≡◌, refl, sym, ◌∙◌, ap, ap₂}
 use native.Mathlib.Decide.{dec_lt}
-use native.Mathlib.Nat.{div-one, div-eq_of_lt, pow-suc, zero-mul}
+use native.Mathlib.Nat.{div-one, div-eq_of_lt, pow-suc}
 use native.Mathlib.Omega.{arith}
 use lib.Count.{count_trailing_zeros, under}
 use lib.Dec.{eqb}
@@ -12,7 +12,7 @@ use borrow.Author.Tests.{eqb-true, eq-eqb, ne_eqb}
 use Rattle.reader.specs.Tests.{◌and◌}
 use Rattle.reader.proofs.TestLaws.{clash, same_test, and_yes, and_no}
 use Rattle.copies.specs.Sets.{has}
-use Rattle.copies.proofs.SetLaws.{has_none, has_one, shifted}
+use Rattle.copies.proofs.SetLaws.{has_none, has_one}
 
 -- the lowest place, and the others
 pub has_first : (s : ℕ) → has s 0 ≡ eqb (s % 2) 1
@@ -85,12 +85,7 @@ least_below k s p h = (least k s p h).0
 pub least_has : (k s : ℕ) → 0 < s → s < 2 ^ k → has s (count_trailing_zeros k s) ≡ true
 least_has k s p h = (least k s p h).1
 
--- a bit or none, shifted to its place
-pub shifted_bit : (s : Bool) (bit i : ℕ) → i < 64 → bit ≡ cond s 0 1 → bit * 2 ^ i % 2 ^ 64 ≡ cond s 0 (2 ^ i)
-shifted_bit true bit i p e = rw e (ap (λ (x : ℕ). x % 2 ^ 64) (zero-mul (2 ^ i)))
-shifted_bit false bit i p e = rw e (shifted 64 i p)
-
--- and its member, where there is one
+-- the member of a bit, where there is one
 pub late_has : (kept : Bool) (n bit i : ℕ) → bit ≡ cond kept 0 (2 ^ n) → has bit i ≡ (eqb n i and not kept)
 late_has true n bit i e = ap (λ b. has b i) e ∙ has_none i ∙ sym (and_no (eqb n i))
 late_has false n bit i e = ap (λ b. has b i) e ∙ has_one n i ∙ sym (and_yes (eqb n i))

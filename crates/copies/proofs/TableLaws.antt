@@ -1,9 +1,7 @@
 -- Laws of the table: what is stored, the rows of the empty table, and fault sets with a common member.
 use Prim.Native.Nat.{ℕ, ◌+◌, ◌*◌, ◌/◌, ◌<◌}
 use mathlib.Core.Bool.{Bool}
-use mathlib.Core.Path.{◌≡◌, refl, ◌∙◌, ap, fun_ext, subst}
-use lib.ListN.{set, length-set}
-use lib.Seq.{get_or-set_same, get_or-set_other}
+use mathlib.Core.Path.{◌≡◌, refl, ap, fun_ext, subst}
 use native.Mathlib.Decide.{dec_lt}
 use native.Mathlib.Omega.{arith}
 use Rattle.reader.specs.declared.job.Job.{Job}
@@ -14,13 +12,9 @@ use Rattle.rules.specs.declared.Copy.{Copy}
 use Rattle.rules.specs.Rules.{Row, blank_row, share_fault}
 use Rattle.copies.specs.declared.table.Copies.{Copies}
 use Rattle.copies.specs.Sets.{has, meets}
-use Rattle.copies.specs.Table.{copy_count, set_at, row_of, table, empty_copies, Whole, Stored, Held}
+use Rattle.copies.specs.Table.{copy_count, set_at, row_of, empty_copies, Held}
 use Rattle.copies.proofs.ListMore.{replicated}
 use Rattle.copies.proofs.SetLaws.{has_none, meets_any}
-
-pub same_copy : (a b c x y z : ℕ) → a ≡ x → b ≡ y → c ≡ z
-    → ◌≡◌ {A = Copy} (record { node = a; start = b; finish = c }) (record { node = x; start = y; finish = z })
-same_copy a b c x y z p q r = rw (p, q, r)
 
 pub same_row : (a b c d : Copy) (f g : ℕ → Bool) → a ≡ b → c ≡ d → f ≡ g
     → ◌≡◌ {A = Row} (record { primary = a; backup = c; faults = f }) (record { primary = b; backup = d; faults = g })
@@ -37,37 +31,6 @@ halves P j primary backup k h =
 pub each_entry : (P : ℕ → Type 0) (n : ℕ) → ((j : ℕ) → j < n → P (2 * j)) → ((j : ℕ) → j < n → P (2 * j + 1))
     → (k : ℕ) → k < 2 * n → P k
 each_entry P n primary backup k p = halves P (k / 2) (primary (k / 2) (omega arith)) (backup (k / 2) (omega arith)) k refl
-
--- the four stores
-module _ (cs : Copies) (whole : Whole cs) (k : ℕ) (c : Copy) (z : ℕ) (p : k < copy_count) where
-  abbrev put : Copies
-  put = table (set cs.node k c.node) (set cs.start k c.start) (set cs.finish k c.finish) (set cs.set k z)
-
-  pub stored_whole : Whole put
-  stored_whole =
-      record {
-        node = length-set cs.node k c.node ∙ whole.node;
-        start = length-set cs.start k c.start ∙ whole.start;
-        finish = length-set cs.finish k c.finish ∙ whole.finish;
-        set = length-set cs.set k z ∙ whole.set;
-      }
-
-  pub stored : Stored cs k c z put
-  stored =
-      record {
-        here =
-            same_copy _ _ _ c.node c.start c.finish
-            (get_or-set_same cs.node k c.node 0 (omega (arith, whole.node)))
-            (get_or-set_same cs.start k c.start 0 (omega (arith, whole.start)))
-            (get_or-set_same cs.finish k c.finish 0 (omega (arith, whole.finish)));
-        here_set = get_or-set_same cs.set k z 0 (omega (arith, whole.set));
-        other = λ i h.
-            same_copy _ _ _ _ _ _
-            (get_or-set_other cs.node k i c.node 0 h)
-            (get_or-set_other cs.start k i c.start 0 h)
-            (get_or-set_other cs.finish k i c.finish 0 h);
-        other_set = λ i h. get_or-set_other cs.set k i z 0 h;
-      }
 
 pub empty_rows : row_of empty_copies ≡ (λ i. blank_row)
 unfolding row_of blank_row

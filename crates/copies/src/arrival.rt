@@ -55,21 +55,3 @@ impl Copies {
         }
     }
 }
-
-// The result of entry k of the table, by a link of this delay; `leave` has for each entry when its result has left its node.
-pub fn result_at<'c>(
-    node: &'c [u32; Copies::COUNT],
-    finish: &'c [u32; Copies::COUNT],
-    leave: &'c [u32; Copies::COUNT],
-    delay: u32,
-    k: usize,
-) -> Outgoing
-    requires { (k < copy_count) × SumFits (get_or leave.now k 0) delay }
-    ensures { result ≡ result_at node.now finish.now leave.now delay k }
-{
-    Outgoing {
-        node: node[k],
-        here: finish[k],
-        away: leave[k] + delay,
-    }
-}

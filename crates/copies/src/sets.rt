@@ -3,20 +3,13 @@ ghost use Rattle.std.specs.Prelude.{cond, ◌≡◌, ◌^◌, ◌<◌};
 ghost use Rattle.copies.specs.Sets.{has};
 
 // The set of every group.
-pub const ALL: u32 = 4294967295;
+pub const ALL: u32 = u32::MAX;
 
 pub fn bit_of(n: u32) -> u32
     requires { n < 32 }
     ensures { result ≡ 2 ^ n }
 {
     1 << n
-}
-
-pub fn bit_of_task(i: usize) -> u64
-    requires { i < 64 }
-    ensures { result ≡ 2 ^ i }
-{
-    1 << i
 }
 
 #[tactic(auto, unfolding(crate::specs::Sets::has))]

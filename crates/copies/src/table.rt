@@ -1,12 +1,11 @@
 // The flat table of copies: entries 2j and 2j + 1 are task j's primary and backup.
-ghost use Rattle.std.specs.Prelude.{◌≡◌, ◌<◌, []};
-ghost use Rattle.copies.specs.Table.{copy_count, table, entry, empty_copies, Whole, Stored};
+ghost use Rattle.std.specs.Prelude.{◌≡◌, ◌<◌};
+ghost use Rattle.copies.specs.Table.{copy_count, entry, empty_copies, Whole, Stored};
 
 use reader::job::Job;
 use rules::Copy;
 
-// The four arrays, which contracts name together and code lends one by one. A backup's set is its task's fault set, a primary's is every group, so
-// that one clash test serves both.
+// A backup's set is its task's fault set, a primary's is every group, so that one clash test serves both.
 #[derive(Clone, Copy)]
 pub struct Copies {
     pub node: [u32; Copies::COUNT],
@@ -54,43 +53,5 @@ impl Copies {
             start: self.start[k],
             finish: self.finish[k],
         }
-    }
-}
-
-// Stores entry k.
-pub fn put(
-    node: &mut [u32; Copies::COUNT],
-    start: &mut [u32; Copies::COUNT],
-    finish: &mut [u32; Copies::COUNT],
-    sets: &mut [u32; Copies::COUNT],
-    k: usize,
-    copy: Copy,
-    set: u32,
-)
-    requires { Whole (table node.old start.old finish.old sets.old) × (k < copy_count) }
-    ensures { Whole (table node.new start.new finish.new sets.new)
-        × Stored (table node.old start.old finish.old sets.old) k copy set
-        (table node.new start.new finish.new sets.new) }
-{
-    node[k] = copy.node;
-    start[k] = copy.start;
-    finish[k] = copy.finish;
-    sets[k] = set;
-}
-
-// Entry k.
-pub fn copy_at<'c>(
-    node: &'c [u32; Copies::COUNT],
-    start: &'c [u32; Copies::COUNT],
-    finish: &'c [u32; Copies::COUNT],
-    k: usize,
-) -> Copy
-    requires { k < copy_count }
-    ensures { result ≡ entry (table node.now start.now finish.now []) k }
-{
-    Copy {
-        node: node[k],
-        start: start[k],
-        finish: finish[k],
     }
 }

@@ -1,21 +1,18 @@
 -- Laws of gathering task by task: from the own nodes to the fault sets of the rules.
 use Prim.Native.Nat.{ℕ, ◌+◌, ◌*◌, ◌≤◌, ◌<◌}
 use mathlib.Core.List.{List}
-use mathlib.Core.Path.{◌≡◌, refl, subst}
+use mathlib.Core.Path.{refl}
 use native.Mathlib.Omega.{arith}
 use lib.ListN.{get_or, set}
 use Rattle.reader.specs.declared.job.Job.{Job}
 use Rattle.reader.specs.declared.plan.Plan.{Plan}
 use Rattle.copies.specs.Gathered.{SetsTo, Gathers}
-use Rattle.judge.specs.Faults.{Receiving, GathersAll}
+use Rattle.judge.specs.Faults.{Receiving}
 
 -- after the first j tasks, from the sets s
 pub record Filling (into : List ℕ) (n : ℕ) (s : List ℕ) (j : ℕ) (sets : List ℕ) : Type 0 where
   pub within : j ≤ n
   pub is : (job : Job) (plan : Plan) → Receiving job plan into n → SetsTo job plan 0 s → SetsTo job plan j sets
-
-pub fill_start : (into : List ℕ) (n : ℕ) (s : List ℕ) → Filling into n s 0 s
-fill_start into n s = record { within = omega arith; is = λ job plan r h. h }
 
 module _ (into : List ℕ) (n : ℕ) (s : List ℕ) (j : ℕ) (sets : List ℕ) (h : Filling into n s j sets) where
   pub fill_more : j < n → (x : ℕ) → Gathers sets (get_or sets (2 * j + 1) 0) (get_or into j 0) x
@@ -26,8 +23,3 @@ module _ (into : List ℕ) (n : ℕ) (s : List ℕ) (j : ℕ) (sets : List ℕ) 
         is = λ job plan r begin.
             gathers job plan j r.sound (omega (arith, r.count)) (r.arrives j low) refl (h.is job plan r begin);
       }
-
-  pub fill_done : n ≤ j → GathersAll into n s sets
-  fill_done end job plan r begin =
-      let e : j ≡ n = omega (arith, h.within) in
-      subst (λ m. SetsTo job plan m sets) e (h.is job plan r begin)

@@ -8,14 +8,13 @@ use lib.ListN.{get_or}
 use borrow.Author.Tests.{le-leb, lt-leb}
 use native.Mathlib.Numerals.{add-one}
 use native.Mathlib.Omega.{arith}
-use Rattle.reader.specs.Limits.{max_nodes, max_tasks}
+use Rattle.reader.specs.Limits.{max_tasks}
 use Rattle.reader.specs.Tests.{◌and◌}
 use Rattle.reader.proofs.TestLaws.{clash}
 use Rattle.copies.specs.declared.table.Copies.{Copies}
 use Rattle.copies.specs.Sets.{meets}
-use Rattle.copies.specs.Table.{copy_count, entry, set_at}
+use Rattle.copies.specs.Table.{entry, set_at}
 use Rattle.copies.specs.Layout.{base_of, spots_from}
-use Rattle.copies.specs.Laying.{Filled}
 use Rattle.copies.proofs.SpotLaws.{Swept, swept_done, swept_stop, swept_more}
 use Rattle.judge.specs.Overlaps.{pair_of, no_pair, meeting, pair_behind, pair_within, pair_on}
 
@@ -41,11 +40,6 @@ unfolding ◌and◌
 note_old true true noted x h = clash true refl h
 note_old true false noted x h = refl
 note_old false d noted x h = refl
-
--- an entry of the spots
-pub filled_low : (order : List ℕ) (from to : ℕ) → Filled order from to → (q e : ℕ) → from ≤ q → q < to
-    → e ≡ get_or order q 0 → e < copy_count
-filled_low order from to pre q e p r is = omega (arith, pre.low q p r)
 
 module _ (cs : Copies) where
   -- an entry with the next behind it
@@ -91,14 +85,9 @@ module _ (cs : Copies) where
       unfolding pair_within
       within_done h = swept_done _ _ _ _ _ p noted so_far (λ x. refl) h
 
-      module _ (pre : Filled order from to) (more : p < to) where
-        pub within_next : (p < to) × Filled order p to
-        within_next =
-            (more, record { size = pre.size; below = pre.below; rises = omega arith; low = λ i a b. pre.low i (omega (arith, so_far.low)) b })
-
-        pub within_more : (next : ℕ) → next ≡ behind (get_or order p 0) p to noted → Swept (pair_within cs) order from to least (p + 1) next
-        unfolding pair_within
-        within_more next e = swept_more _ _ _ _ _ p noted so_far more next (ap (pair_within cs (spots_from order (p + 1) (to - (p + 1)))) (sym e))
+      pub within_more : p < to → (next : ℕ) → next ≡ behind (get_or order p 0) p to noted → Swept (pair_within cs) order from to least (p + 1) next
+      unfolding pair_within
+      within_more more next e = swept_more _ _ _ _ _ p noted so_far more next (ap (pair_within cs (spots_from order (p + 1) (to - (p + 1)))) (sym e))
 
     -- and over all nodes
     module _ (count : List ℕ) where
@@ -114,6 +103,3 @@ module _ (cs : Copies) where
             e ∙ ap₂ (λ c n. pair_within cs (spots_from order (base_of m) c) n)
             (let f : base_of m + get_or count m 0 - base_of m ≡ get_or count m 0 = omega arith in f)
             is ∙ ap (pair_on cs order count) (sym (add-one m))
-
-        pub nodes_done : m ≤ max_nodes → max_nodes ≤ m → noted ≡ pair_on cs order count max_nodes
-        nodes_done p q = is ∙ ap (pair_on cs order count) (let e : m ≡ max_nodes = omega arith in e)

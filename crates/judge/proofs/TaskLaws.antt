@@ -49,11 +49,6 @@ placeable job plan sound reads =
       backup_sends = λ j p. sound.send_most _ (reads.backup_node j p);
     }
 
-pub detect_fits : (job : Job) (plan : Plan) → Placeable job plan → (j : ℕ) → j < tasks job
-    → (p : Copy) → p ≡ copy_on (task job j) (place plan j).primary_node (place plan j).primary_start
-    → p.finish + detect job p.node < 4_294_967_296
-detect_fits job plan h j low p is = rw is (omega (arith, (h.primary j low).ends, h.detects j low))
-
 -- the group of the primary's node is one
 pub group_fits : (job : Job) (plan : Plan) → Placeable job plan → (j : ℕ) → j < tasks job
     → (p : Copy) → p ≡ copy_on (task job j) (place plan j).primary_node (place plan j).primary_start → group job p.node ≤ max_group
