@@ -1,5 +1,5 @@
 // When the result of a copy is on each node.
-ghost use Rattle.std.specs.Prelude.{cond, ◌≡◌, ◌<◌, max, get_or};
+ghost use Rattle.std.specs.Prelude.{cond, ◌≡◌, ◌<◌, get_or};
 ghost use Rattle.copies.specs.Arrival.{arrival_of, comes, result_at, SumFits};
 ghost use Rattle.copies.specs.Table.{copy_count};
 
@@ -12,12 +12,6 @@ pub struct Outgoing {
     pub node: u32,
     pub here: u32,
     pub away: u32,
-}
-
-pub fn later(a: u32, b: u32) -> u32
-    ensures { result ≡ max a b }
-{
-    a.max(b)
 }
 
 // One of two values: no jump, since tests of copies follow no pattern that a processor learns.
