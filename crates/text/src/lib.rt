@@ -14,7 +14,7 @@ use planner::plan_job;
 use reader::job::Job;
 use reader::job_file::read_job;
 use reader::plan::{Place, Plan};
-use reader::refusal::{Answer, Refusal};
+use reader::refusal::{Refusal, Told};
 
 pub mod print;
 
@@ -36,14 +36,15 @@ fn put_row(d: &mut [u8], at: usize, task: usize, place: Place) -> usize
     put_field(d, last, place.backup_start as usize, b'\n')
 }
 
-// The rows of the first tasks.
-fn put_rows(d: &mut [u8], from: usize, count: usize, places: [Place; Job::MAX_TASKS]) -> usize
-    requires { (count ≤ max_tasks) × (from + max_row * count ≤ length d.old) }
-    ensures { (result ≤ from + max_row * count) × Prints d.old from (flat count (λ j. row j (get_or places j no_place))) d.new result }
+// The rows of tasks 0, 1, ..
+fn put_rows(d: &mut [u8], from: usize, places: &[Place]) -> usize
+    requires { from + max_row * length places.now ≤ length d.old }
+    ensures { (result ≤ from + max_row * length places.now)
+        × Prints d.old from (flat (length places.now) (λ j. row j (get_or places.now j no_place))) d.new result }
 {
     let mut at = from;
-    for j in 0..count {
-        at = put_row(d, at, j, places[j]);
+    for (j, place) in places.iter().enumerate() {
+        at = put_row(d, at, j, *place);
     }
     at
 }
@@ -52,16 +53,15 @@ fn put_plan(d: &mut [u8], plan: Plan) -> usize
     requires { (plan.task_count ≤ max_tasks) × (max_text ≤ length d.old) }
     ensures { (result ≤ max_text) × Prints d.old 0 (plan_text plan) d.new result }
 {
-    let places = plan.places;
     let at = put_text(d, 0, b"task primary at backup at\n");
-    put_rows(d, at, plan.task_count as usize, places)
+    put_rows(d, at, &plan.places[..plan.task_count as usize])
 }
 
 fn put_refusal(d: &mut [u8], refusal: Refusal) -> usize
     requires { max_text ≤ length d.old }
     ensures { (result ≤ max_text) × Prints d.old 0 (refusal_text refusal) d.new result }
 {
-    let told = refusal.tell();
+    let told = Told::from(refusal);
     let number = put_text(d, 0, b"refused ");
     let first = put_field(d, number, told.number as usize, b' ');
     let second = put_field(d, first, told.first, b' ');
@@ -72,13 +72,7 @@ fn put_refusal(d: &mut [u8], refusal: Refusal) -> usize
 pub fn list_job(job: &[u8], out: &mut [u8; MAX_TEXT]) -> usize
     ensures { (result ≤ max_text) × Prints out.old 0 (listing job.now) out.new result }
 {
-    let read = read_job(job);
-    let bad_job = read.answer;
-    if let Answer::Refused(fault) = bad_job {
-        return put_refusal(out, fault);
-    }
-    let value = read.job;
-    match plan_job(value) {
+    match read_job(job).and_then(plan_job) {
         Ok(plan) => put_plan(out, plan),
         Err(refusal) => put_refusal(out, refusal),
     }

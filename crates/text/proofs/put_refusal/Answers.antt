@@ -9,7 +9,7 @@ pub returns : goal.returns
 unfolding told_text refused_word line
 returns c = (
   omega (arith, c.put_text-number.ensures.behind, c.put_field-first.ensures.0, c.put_field-second.ensures.0),
-  prints_same (ap told_text c.tell-told.ensures)
+  prints_same (ap told_text c.from-told.ensures)
       (prints_then c.put_text-number.ensures
       (prints_then c.put_field-first.ensures.1 (prints_then c.put_field-second.ensures.1 c.put_field.ensures.1))),
 )
