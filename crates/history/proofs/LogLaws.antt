@@ -1,20 +1,18 @@
 -- Laws of reading a log: one record's three numbers, each where the one before it passed, and record after record into the window.
 use Prim.Native.Nat.{ℕ, ◌+◌, ◌-◌, ◌*◌, ◌≤◌, ◌<◌}
-use mathlib.Core.Path.{◌≡◌, refl, sym, ap, ◌∙◌, subst}
+use mathlib.Core.Path.{◌≡◌, sym, ap, ◌∙◌, subst}
 use mathlib.Core.List.{List}
 use mathlib.Core.Option.{none, some}
 use lib.ListN.{get_or, length}
 use native.Mathlib.Omega.{arith}
 use Rattle.reader.specs.declared.job.Job.{Job}
 use Rattle.reader.specs.declared.refusal.Refusal.{Refusal}
-use Rattle.reader.specs.Refusals.{Answer}
-use Rattle.std.specs.Prelude.{Ok, Err}
-use Rattle.reader.specs.declared.number.Number.{Number}
-use Rattle.reader.specs.declared.number.Number.TheVariants.{Is, Fault}
+use Rattle.std.specs.Prelude.{Result, Ok, Err, IsErrAnd}
 use Rattle.reader.specs.First.{first}
 use Rattle.reader.specs.Limits.{max_time, max_tasks, max_nodes}
 use Rattle.reader.specs.Entries.{nodes, tasks, task}
-use Rattle.reader.specs.Number.{number_at, value_fault, numbered}
+use Rattle.reader.specs.Number.{number_at, value_fault}
+use Rattle.reader.specs.Refusals.{resulted}
 use Rattle.reader.specs.Reads.{Reads}
 use Rattle.reader.specs.PlanFile.{node_fault}
 use Rattle.reader.proofs.NumberLaws.{is_none, is_value, is_fault}
@@ -34,42 +32,47 @@ pub run_is : (job : Job) (runs : List ℕ) (j n p : ℕ) → Runs job runs → j
     → get_or (task job j).run n 0 ≡ get_or runs p 0
 run_is job runs j n p h a b e = sym (h.is j n a b) ∙ ap (λ k. get_or runs k 0) (sym e)
 
+-- the three numbers of a record, each where those before it passed
 module _ (s : List ℕ) (at tasks_n nodes_n : ℕ) (job : Job) (is_tasks : tasks job ≡ tasks_n) (is_nodes : nodes job ≡ nodes_n)
-    (t : Number) (et : t ≡ numbered (value_fault s at 0 (tasks_n - 1)) (number_at s at)) where
-  task_answer : t ≡ numbered (value_fault s at 0 (tasks job - 1)) (number_at s at)
-  task_answer = subst (λ n. t ≡ numbered (value_fault s at 0 (n - 1)) (number_at s at)) (sym is_tasks) et
+    (w : Result Timing Refusal) (t : Result ℕ Refusal) (et : t ≡ resulted (value_fault s at 0 (tasks_n - 1)) (number_at s at)) where
+  task_answer : t ≡ resulted (value_fault s at 0 (tasks job - 1)) (number_at s at)
+  task_answer = subst (λ n. t ≡ resulted (value_fault s at 0 (n - 1)) (number_at s at)) (sym is_tasks) et
 
-  pub timing_task : {a : Answer} {r : Refusal} {A : Type 0} → t ≡ Fault r → a ≡ Err r → Reads (timing_fault s job at) a A
+  abbrev One : Type 0
+  One = Reads (timing_fault s job at) w (λ x. x ≡ timing_at s at)
+
+  pub timing_task : {r : Refusal} → t ≡ Err r → IsErrAnd w (λ e. e ≡ r) → One
   unfolding timing_fault
-  timing_task q told = stopped (stop _ (is_fault t _ _ task_answer q)) told
+  timing_task q told = stopped w told (stop _ (is_fault t _ _ task_answer q))
 
-  module _ (x : ℕ) (qt : t ≡ Is x) (n : Number) (en : n ≡ numbered (node_fault s (at + 4) nodes_n (task job x).run) (number_at s (at + 4))) where
-    node_answer : n ≡ numbered (node_fault s (at + 4) (nodes job) (task job (number_at s at)).run) (number_at s (at + 4))
+  module _ (x : ℕ) (qt : t ≡ Ok x) (n : Result ℕ Refusal)
+      (en : n ≡ resulted (node_fault s (at + 4) nodes_n (task job x).run) (number_at s (at + 4))) where
+    node_answer : n ≡ resulted (node_fault s (at + 4) (nodes job) (task job (number_at s at)).run) (number_at s (at + 4))
     node_answer =
-        subst (λ p. n ≡ numbered (node_fault s (at + 4) p (task job (number_at s at)).run) (number_at s (at + 4))) (sym is_nodes)
-        (subst (λ y. n ≡ numbered (node_fault s (at + 4) nodes_n (task job y).run) (number_at s (at + 4))) (is_value t _ _ task_answer qt) en)
+        subst (λ p. n ≡ resulted (node_fault s (at + 4) p (task job (number_at s at)).run) (number_at s (at + 4))) (sym is_nodes)
+        (subst (λ y. n ≡ resulted (node_fault s (at + 4) nodes_n (task job y).run) (number_at s (at + 4))) (is_value t _ _ task_answer qt) en)
 
-    pub timing_node : {a : Answer} {r : Refusal} {A : Type 0} → n ≡ Fault r → a ≡ Err r → Reads (timing_fault s job at) a A
+    pub timing_node : {r : Refusal} → n ≡ Err r → IsErrAnd w (λ e. e ≡ r) → One
     unfolding timing_fault
-    timing_node q told = stopped (pass _ (is_none t _ _ task_answer qt) ∙ stop _ (is_fault n _ _ node_answer q)) told
+    timing_node q told = stopped w told (pass _ (is_none t _ _ task_answer qt) ∙ stop _ (is_fault n _ _ node_answer q))
 
-    module _ (y : ℕ) (qn : n ≡ Is y) (d : Number) (ed : d ≡ numbered (value_fault s (at + 8) min_ticks max_time) (number_at s (at + 8))) where
-      pub timing_ticks : {a : Answer} {r : Refusal} {A : Type 0} → d ≡ Fault r → a ≡ Err r → Reads (timing_fault s job at) a A
+    module _ (y : ℕ) (qn : n ≡ Ok y) (d : Result ℕ Refusal)
+        (ed : d ≡ resulted (value_fault s (at + 8) min_ticks max_time) (number_at s (at + 8))) where
+      pub timing_ticks : {r : Refusal} → d ≡ Err r → IsErrAnd w (λ e. e ≡ r) → One
       unfolding timing_fault
       timing_ticks q told =
-          stopped (pass _ (is_none t _ _ task_answer qt) ∙ pass _ (is_none n _ _ node_answer qn) ∙ is_fault d _ _ ed q) told
+          stopped w told (pass _ (is_none t _ _ task_answer qt) ∙ pass _ (is_none n _ _ node_answer qn) ∙ is_fault d _ _ ed q)
 
-      pub timing_done : (z : ℕ) → d ≡ Is z
-          → Reads (timing_fault s job at) (Ok tt) (◌≡◌ {A = Timing} (record { task = x; node = y; ticks = z }) (timing_at s at))
+      pub timing_done : (z : ℕ) → d ≡ Ok z → w ≡ Ok (record { task = x; node = y; ticks = z }) → One
       unfolding timing_fault timing_at
-      timing_done z qd =
+      timing_done z qd done =
           let ex : x ≡ number_at s at = is_value t _ _ task_answer qt in
           let ey : y ≡ number_at s (at + 4) = is_value n _ _ node_answer qn in
           let ez : z ≡ number_at s (at + 8) = is_value d _ _ ed qd in
-          finished
+          rw done
+          (finished
           (pass _ (is_none t _ _ task_answer qt) ∙ pass _ (is_none n _ _ node_answer qn) ∙ is_none d _ _ ed qd)
-          refl
-          (cc)
+          (cc))
 
 -- the first k records are not at fault, and are in the window
 pub record SoFar (log : List ℕ) (job : Job) (k : ℕ) (w : Window) : Type 0 where
@@ -95,53 +98,46 @@ log_start log tasks_n nodes_n runs = record {
 
 module _ (log : List ℕ) (tasks_n nodes_n : ℕ) (runs : List ℕ) (at : ℕ) (w : Window) (inv : LogTo log tasks_n nodes_n runs at w) where
   -- the next record
-  module _ (a : Answer) (x : Timing) (one : OneRead log tasks_n nodes_n runs at a x) where
-    stops : {r : Refusal} {A : Type 0} (job : Job) → at < length log → tasks job ≡ tasks_n → nodes job ≡ nodes_n → Runs job runs
-        → (b : Answer) → b ≡ a → a ≡ Err r → Reads (log_fault log job) b A
+  module _ (x : Result Timing Refusal) (one : OneRead log tasks_n nodes_n runs at x) where
+    -- is refused
+    pub log_stop : {r : Refusal} (v : Result Window Refusal) → at < length log → x ≡ Err r → IsErrAnd v (λ e. e ≡ r)
+        → AllRead log tasks_n nodes_n runs v
     unfolding log_fault records
-    stops {r} job below p n h b same q =
+    log_stop {r} v below q told = λ job p n h.
         let inside : inv.k < records log = omega (arith, inv.at_is) in
         let bad : record_fault log job inv.k ≡ some r = ap (timing_fault log job) (sym inv.at_is) ∙ reads_some (one job p n h) q in
-        stopped (first_found (record_fault log job) (records log) inv.k r inside (inv.read job p n h).clear bad) (same ∙ q)
+        stopped v told (first_found (record_fault log job) (records log) inv.k r inside (inv.read job p n h).clear bad)
 
-    pub log_stop : {r : Refusal} (v : Window) → at + 12 ≤ length log → a ≡ Err r → (b : Answer) → b ≡ a
-        → AllRead log tasks_n nodes_n runs b v
-    log_stop v whole q b same = λ job p n h. stops job (omega arith) p n h b same q
+    module _ {y : Timing} (q : x ≡ Ok y) where
+      -- is not cut short
+      pub log_whole : (job : Job) → tasks job ≡ tasks_n → nodes job ≡ nodes_n → Runs job runs → at + 12 ≤ length log
+      unfolding timing_fault
+      log_whole job p n h =
+          let ticks = field_good log (at + 8) _ _ _ (or_else_r _ _ (or_else_r _ _ (reads_none (one job p n h) q))) in
+          omega (arith, ticks.room)
 
-    -- a record that is cut short is refused
-    pub log_cut : (v : Window) → at < length log → length log < at + 12 → (b : Answer) → b ≡ a → AllRead log tasks_n nodes_n runs b v
-    unfolding timing_fault
-    log_cut v below cut b same = λ job p n h. go job p n h a refl
-      where
-        go : (job : Job) → tasks job ≡ tasks_n → nodes job ≡ nodes_n → Runs job runs → (c : Answer) → a ≡ c
-            → Reads (log_fault log job) b (Formed v × Holding (record_at log) (records log) v)
-        go job p n h (Err r) e = stops job below p n h b same e
-        go job p n h (Ok tt) e =
-            let room = (field_good log (at + 8) _ _ _ (or_else_r _ _ (or_else_r _ _ (reads_none (one job p n h) e)))).room in
-            absurd (let z : ⊥ = omega (arith, room, cut) in z)
+      -- is taken in
+      pub log_more : at + 12 ≤ length log → (v : Window) → Takes w y v → LogTo log tasks_n nodes_n runs (at + 12) v
+      log_more whole v push = record {
+        k = inv.k + 1;
+        at_is = omega (arith, inv.at_is);
+        within = whole;
+        formed = push.formed;
+        read = λ job p n h.
+            let r = one job p n h in
+            let fine : record_fault log job inv.k ≡ none = ap (timing_fault log job) (sym inv.at_is) ∙ reads_none r q in
+            let is : record_at log inv.k ≡ y = ap (timing_at log) (sym inv.at_is) ∙ sym (reads_value r q) in
+            record {
+              clear = first_more (record_fault log job) inv.k (inv.read job p n h).clear fine;
+              holds = push.holds (record_at log) inv.k is (inv.read job p n h).holds;
+            };
+      }
 
-    pub log_more : at + 12 ≤ length log → a ≡ Ok tt → (v : Window) → Takes w x v → LogTo log tasks_n nodes_n runs (at + 12) v
-    log_more whole q v push = record {
-      k = inv.k + 1;
-      at_is = omega (arith, inv.at_is);
-      within = whole;
-      formed = push.formed;
-      read = λ job p n h.
-          let r = one job p n h in
-          let fine : record_fault log job inv.k ≡ none = ap (timing_fault log job) (sym inv.at_is) ∙ reads_none r q in
-          let is : record_at log inv.k ≡ x = ap (timing_at log) (sym inv.at_is) ∙ sym (reads_value r q) in
-          record {
-            clear = first_more (record_fault log job) inv.k (inv.read job p n h).clear fine;
-            holds = push.holds (record_at log) inv.k is (inv.read job p n h).holds;
-          };
-    }
-
-  pub log_done : length log ≤ at → (b : Answer) → b ≡ Ok tt → (v : Window) → v ≡ w → AllRead log tasks_n nodes_n runs b v
+  pub log_done : length log ≤ at → AllRead log tasks_n nodes_n runs (Ok w)
   unfolding log_fault records
-  log_done all b done v same = λ job p n h.
+  log_done all = λ job p n h.
       let e : inv.k ≡ records log = omega (arith, inv.at_is, inv.within) in
       let r = inv.read job p n h in
       finished
       (ap (λ m. first m (record_fault log job)) (sym e) ∙ r.clear)
-      done
-      (rw same (inv.formed, subst (λ m. Holding (record_at log) m w) e r.holds))
+      (inv.formed, subst (λ m. Holding (record_at log) m w) e r.holds)

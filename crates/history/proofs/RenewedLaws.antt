@@ -8,8 +8,7 @@ use lib.Dec.{eqb}
 use lib.ListN.{get_or, replicate}
 use native.Mathlib.Omega.{arith}
 use Rattle.reader.specs.declared.job.Job.{Job}
-use Rattle.reader.specs.Refusals.{Answer}
-use Rattle.std.specs.Prelude.{Ok, Err}
+use Rattle.std.specs.Prelude.{Result, Ok, Err, IsErrAnd}
 use Rattle.reader.specs.declared.refusal.Refusal.{Refusal}
 use Rattle.reader.specs.Tests.{◌and◌}
 use Rattle.reader.specs.Limits.{max_nodes, max_tasks, max_time}
@@ -128,16 +127,19 @@ module _ (log : List ℕ) (job : Job) (sound : Sound job) (fine : log_fault log 
         ap (λ t. or_else_run t (run job j n)) (has.is (cell_of j n))
         ∙ table_afresh (record_at log) (records log) w holds nodes_low job j n (omega (arith, sound.nodes_most)))
 
-module _ (log : List ℕ) (job : Job) (a : Answer) (w : Window)
-    (reads : Reads (log_fault log job) a (Formed w × Holding (record_at log) (records log) w)) where
-  pub renew_refused : {r : Refusal} {A : Type 0} → a ≡ Err r → Reads (log_fault log job) a A
-  renew_refused q = stopped (reads_some reads q) q
+module _ (log : List ℕ) (job : Job) (read : Result Window Refusal)
+    (reads : Reads (log_fault log job) read (λ w. Formed w × Holding (record_at log) (records log) w)) where
+  abbrev Renewed : Result Job Refusal → Type 0
+  Renewed result = Reads (log_fault log job) result (λ new. new ≡ renewed job (log_time job log))
 
-  pub window_formed : a ≡ Ok tt → Formed w
-  window_formed q = (reads_value reads q).0
+  pub renew_refused : {r : Refusal} (v : Result Job Refusal) → read ≡ Err r → IsErrAnd v (λ e. e ≡ r) → Renewed v
+  renew_refused v q told = stopped v told (reads_some reads q)
 
-  pub renew_done : Sound job → a ≡ Ok tt → (seen : List ℕ) → Seen w seen → (new : Job) → new ≡ renewed job (table_time seen job)
-      → Reads (log_fault log job) a (new ≡ renewed job (log_time job log))
-  renew_done sound q seen has new e =
-      let fine = reads_none reads q in
-      finished fine q (e ∙ renewed_by log job sound fine w (reads_value reads q).1 seen has)
+  module _ {w : Window} (q : read ≡ Ok w) where
+    pub window_formed : Formed w
+    window_formed = (reads_value reads q).0
+
+    pub renew_done : Sound job → (seen : List ℕ) → Seen w seen → (new : Job) → new ≡ renewed job (table_time seen job) → Renewed (Ok new)
+    renew_done sound seen has new e =
+        let fine = reads_none reads q in
+        finished fine (e ∙ renewed_by log job sound fine w (reads_value reads q).1 seen has)

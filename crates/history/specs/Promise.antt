@@ -1,8 +1,8 @@
 -- What the functions that read a log, and that renew a job, promise each other.
-use Rattle.std.specs.Prelude.{ℕ, ◌<◌, List, ◌≡◌, get_or}
+use Rattle.std.specs.Prelude.{ℕ, ◌<◌, List, ◌≡◌, get_or, Result}
 use Rattle.reader.specs.declared.job.Job.{Job}
 use Rattle.reader.specs.declared.job.Task.{Task}
-use Rattle.reader.specs.Refusals.{Answer}
+use Rattle.reader.specs.declared.refusal.Refusal.{Refusal}
 use Rattle.reader.specs.Limits.{max_nodes, max_tasks}
 use Rattle.reader.specs.Entries.{nodes, tasks, task, run, no_task}
 use Rattle.reader.specs.Reads.{Reads}
@@ -18,14 +18,15 @@ pub record Runs (job : Job) (runs : List ℕ) : Type 0 where
   pub is : (j n : ℕ) → j < max_tasks → n < max_nodes → get_or runs (cell_of j n) 0 ≡ run job j n
 
 -- of jobs of n tasks and p nodes, and of the run times in a row, the record at an offset
-abbrev pub OneRead : List ℕ → ℕ → ℕ → List ℕ → ℕ → Answer → Timing → Type 0
-OneRead log n p runs at a x =
-    (job : Job) → tasks job ≡ n → nodes job ≡ p → Runs job runs → Reads (timing_fault log job at) a (x ≡ timing_at log at)
+abbrev pub OneRead : List ℕ → ℕ → ℕ → List ℕ → ℕ → Result Timing Refusal → Type 0
+OneRead log n p runs at result =
+    (job : Job) → tasks job ≡ n → nodes job ≡ p → Runs job runs → Reads (timing_fault log job at) result (λ x. x ≡ timing_at log at)
 
 -- and the whole log
-abbrev pub AllRead : List ℕ → ℕ → ℕ → List ℕ → Answer → Window → Type 0
-AllRead log n p runs a w =
-    (job : Job) → tasks job ≡ n → nodes job ≡ p → Runs job runs → Reads (log_fault log job) a (Formed w × Holding (record_at log) (records log) w)
+abbrev pub AllRead : List ℕ → ℕ → ℕ → List ℕ → Result Window Refusal → Type 0
+AllRead log n p runs result =
+    (job : Job) → tasks job ≡ n → nodes job ≡ p → Runs job runs
+    → Reads (log_fault log job) result (λ w. Formed w × Holding (record_at log) (records log) w)
 
 -- the time of task j on node n, of ticks seen that stand in a list, for a task of these run times; and for a job
 abbrev pub row_time : List ℕ → List ℕ → ℕ → ℕ → ℕ

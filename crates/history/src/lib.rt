@@ -12,51 +12,29 @@ ghost use Rattle.history.specs.Calls.{run_times, renew_job};
 
 use crate::renewed::{put_table, renew};
 use reader::job_file::read_job;
-use reader::refusal::{Answer, Refusal};
-use writer::write_job;
+use reader::refusal::{Refusal, result_number};
+use writer::{room, write_job};
 
 // The table of run times of a job file and a log.
-pub fn run_times(job: &[u8], log: &[u8], out: &mut [u8]) -> Answer
-    ensures { run_times job.now log.now out.old ≡ record { answer = result; buffer = out.new } }
+pub fn run_times(file: &[u8], log: &[u8], out: &mut [u8]) -> Result<(), Refusal>
+    ensures { run_times file.now log.now out.old ≡ record { answer = result; buffer = out.new } }
 {
-    let read = read_job(job);
-    let bad_job = read.answer;
-    let Answer::Done = bad_job else {
-        return bad_job;
-    };
-    let value = read.job;
-    let need = 4 * ((value.node_count as usize) * (value.task_count as usize));
-    if out.len() < need {
-        return Answer::Refused(Refusal::ShortBuffer(need));
-    }
-    let new = renew(value, log);
-    let bad_log = new.answer;
-    let Answer::Done = bad_log else {
-        return bad_log;
-    };
-    put_table(out, &new.job);
-    Answer::Done
+    let job = read_job(file)?;
+    let need = 4 * ((job.node_count as usize) * (job.task_count as usize));
+    room(out, need)?;
+    let new = renew(&job, log)?;
+    put_table(out, &new);
+    Ok(())
 }
 
 // The job file with these run times.
-pub fn renew_job(job: &[u8], log: &[u8], out: &mut [u8]) -> Answer
-    ensures { renew_job job.now log.now out.old ≡ record { answer = result; buffer = out.new } }
+pub fn renew_job(file: &[u8], log: &[u8], out: &mut [u8]) -> Result<(), Refusal>
+    ensures { renew_job file.now log.now out.old ≡ record { answer = result; buffer = out.new } }
 {
-    let read = read_job(job);
-    let bad_job = read.answer;
-    let Answer::Done = bad_job else {
-        return bad_job;
-    };
-    let need = job.len();
-    if out.len() < need {
-        return Answer::Refused(Refusal::ShortBuffer(need));
-    }
-    let new = renew(read.job, log);
-    let bad_log = new.answer;
-    let Answer::Done = bad_log else {
-        return bad_log;
-    };
-    write_job(new.job, out)
+    let job = read_job(file)?;
+    room(out, file.len())?;
+    let new = renew(&job, log)?;
+    write_job(&new, out)
 }
 
 // Run times from the last runs, a number for each task and node.
@@ -64,7 +42,7 @@ pub fn seqopchi_run_times(job: &[u8], log: &[u8], out: &mut [u8]) -> u64
     ensures { (result ≡ result_number (run_times job.now log.now out.old).answer)
         × (out.new ≡ (run_times job.now log.now out.old).buffer) }
 {
-    run_times(job, log, out).result()
+    result_number(run_times(job, log, out))
 }
 
 // The job with these run times in place of its own.
@@ -72,5 +50,5 @@ pub fn seqopchi_renew_job(job: &[u8], log: &[u8], out: &mut [u8]) -> u64
     ensures { (result ≡ result_number (renew_job job.now log.now out.old).answer)
         × (out.new ≡ (renew_job job.now log.now out.old).buffer) }
 {
-    renew_job(job, log, out).result()
+    result_number(renew_job(job, log, out))
 }

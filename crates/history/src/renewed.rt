@@ -13,15 +13,8 @@ ghost use Rattle.history.specs.Promise.{Runs, row_time, table_time, new_task};
 use crate::log::read_log;
 use crate::window::{Window, largest};
 use reader::job::{Job, Task};
-use reader::refusal::Answer;
+use reader::refusal::Refusal;
 use writer::put_run;
-
-// Where the log is refused the job is as it was.
-#[derive(Clone, Copy)]
-pub struct Renewed {
-    pub answer: Answer,
-    pub job: Job,
-}
 
 // The job's run times in one row, task by task.
 fn runs_of(job: &Job) -> [u32; Window::CELLS]
@@ -93,19 +86,14 @@ fn with_times(job: &Job, seen: &[u32; Window::CELLS]) -> Job
 }
 
 // The job with the run times of the log's newest records.
-pub fn renew(job: Job, log: &[u8]) -> Renewed
-    requires { Sound job }
-    ensures { Reads (log_fault log.now job) result.answer (result.job ≡ renewed job (log_time job log.now)) }
+pub fn renew(job: &Job, log: &[u8]) -> Result<Job, Refusal>
+    requires { Sound job.now }
+    ensures { Reads (log_fault log.now job.now) result (λ new. new ≡ renewed job.now (log_time job.now log.now)) }
 {
-    let runs = runs_of(&job);
-    let read = read_log(log, job.task_count as usize, job.node_count as usize, &runs);
-    let answer = read.answer;
-    let Answer::Done = answer else {
-        return Renewed { answer, job };
-    };
-    let seen = largest(&read.window);
-    let new = with_times(&job, &seen);
-    Renewed { answer, job: new }
+    let runs = runs_of(job);
+    let window = read_log(log, job.task_count as usize, job.node_count as usize, &runs)?;
+    let seen = largest(&window);
+    Ok(with_times(job, &seen))
 }
 
 // The run times of a job, task by task, in each by node.

@@ -1,25 +1,25 @@
 -- `history::renew_job` meets its contract.
 use mathlib.Core.Path.{refl, ◌∙◌}
-use Rattle.seqopchi.proofs.ReadLaws.{job_sound}
-use Rattle.history.proofs.CallLaws.{job_refused, no_room, log_refused, renew_is, renew_written}
+use Rattle.history.proofs.CallLaws.{job_refused, job_sound, no_room, log_refused, renew_is, renew_written}
 use Rattle.history.proofs.renew_job.Goals as goal
 
-pub returns-in_default : goal.returns-in_default
-returns-in_default c = renew_is _ _ _ ∙ job_refused _ _ _ _ _ _ c.read_job-read.ensures c.in_default.is
+pub returns-in_err-job : goal.returns-in_err-job
+returns-in_err-job c = renew_is _ _ _ ∙ job_refused _ _ _ _ _ _ c.read_job.ensures _ c.in_err-job.was c.from_residual.ensures.1
 
-pub returns-then-out-need : goal.returns-then-out-need
-returns-then-out-need c = renew_is _ _ _ ∙ no_room _ _ _ _ _ _ c.read_job-read.ensures c.in-Done.is _ refl c.if-out-need.true
+pub returns-in_err-room : goal.returns-in_err-room
+returns-in_err-room c =
+    renew_is _ _ _ ∙ no_room _ _ _ _ _ _ c.read_job.ensures _ c.in_ok-job.was _ refl
+    _ c.room.ensures.answer _ c.in_err-room.was c.from_residual-in_err-room.ensures.1
 
-pub renew-new-requires : goal.renew-new-requires
-renew-new-requires c = job_sound _ _ c.read_job-read.ensures c.in-Done.is
+pub renew-requires : goal.renew-requires
+renew-requires c = job_sound _ c.read_job.ensures c.in_ok-job.was
 
-pub returns-in_default-bad_log : goal.returns-in_default-bad_log
-returns-in_default-bad_log c =
-    renew_is _ _ _ ∙ log_refused _ _ _ _ _ _ c.read_job-read.ensures c.in-Done.is _ refl c.if-out-need.false _
-    c.renew-new.ensures c.in_default-bad_log.is
+pub returns-in_err-new : goal.returns-in_err-new
+returns-in_err-new c =
+    renew_is _ _ _ ∙ log_refused _ _ _ _ _ _ c.read_job.ensures _ c.in_ok-job.was _ refl
+    _ c.room.ensures.answer c.in_ok-room.was _ c.renew.ensures _ c.in_err-new.was c.from_residual-in_err-new.ensures.1
 
 pub returns : goal.returns
 returns c =
-    renew_written _ _ _ _ c.read_job-read.ensures c.in-Done.is _ _
-    c.renew-new.ensures c.in-Done-bad_log.is c.if-out-need.false
-    c.write_job.ensures
+    renew_written _ _ _ _ c.read_job.ensures _ c.in_ok-job.was _ _ c.room.ensures.answer c.in_ok-room.was
+    _ c.renew.ensures _ c.in_ok-new.was refl c.in_ok-room.ensures.fits c.write_job.ensures

@@ -1,7 +1,6 @@
 -- `history::log::read_log` meets its contract.
-use mathlib.Core.Path.{refl}
 use native.Mathlib.Omega.{arith}
-use Rattle.history.proofs.LogLaws.{log_start, log_stop, log_more, log_cut, log_done}
+use Rattle.history.proofs.LogLaws.{log_start, log_stop, log_more, log_whole, log_done}
 use Rattle.history.proofs.log.read_log.Goals as goal
 
 pub loop-at-init : goal.loop-at-init
@@ -10,35 +9,24 @@ loop-at-init c = rw c.empty-window.ensures (log_start _ _ _ _)
 pub overflow_add-at : goal.overflow_add-at
 overflow_add-at c = omega (arith, c.loop-at.invariant.within)
 
-pub read_timing-one-requires : goal.read_timing-one-requires
-read_timing-one-requires c = (omega arith, c.requires.0, c.requires.1, c.requires.2, c.requires.3)
-
-pub returns-in_default : goal.returns-in_default
-returns-in_default c =
-    log_stop _ _ _ _ _ _ c.loop-at.invariant _ _ c.read_timing-one.ensures.one_read _
-    c.loop-at-test.true c.in_default.is _ refl
-
-pub take-requires : goal.take-requires
-take-requires c =
-    (c.loop-at.invariant.formed, c.read_timing-one.ensures.task_lt_max_tasks.0, c.read_timing-one.ensures.task_lt_max_tasks.1)
-
-pub overflow_add-at-in-loop-at : goal.overflow_add-at-in-loop-at
-overflow_add-at-in-loop-at c = omega arith
-
-pub loop-at-smaller : goal.loop-at-smaller
-loop-at-smaller c = omega arith
+pub returns-in_err-read_timing : goal.returns-in_err-read_timing
+returns-in_err-read_timing c =
+    log_stop _ _ _ _ _ _ c.loop-at.invariant _ c.read_timing.ensures.one_read _ (omega arith) c.in_err-read_timing.was c.from_residual.ensures.1
 
 pub loop-at-preserved : goal.loop-at-preserved
 loop-at-preserved c =
-    log_more _ _ _ _ _ _ c.loop-at.invariant _ _ c.read_timing-one.ensures.one_read
-    c.loop-at-test.true c.in-Done.is _ c.take.ensures
+    log_more _ _ _ _ _ _ c.loop-at.invariant _ c.read_timing.ensures.one_read c.in_ok-read_timing.was c.loop-at-test.true _ c.take.ensures
 
-pub read_timing-cut-requires : goal.read_timing-cut-requires
-read_timing-cut-requires c = (omega (arith, c.loop-at.invariant.within), c.requires.0, c.requires.1, c.requires.2, c.requires.3)
+-- a record that is cut short is refused
+pub returns-in_err-read_timing-2 : goal.returns-in_err-read_timing-2
+returns-in_err-read_timing-2 c =
+    log_stop _ _ _ _ _ _ c.loop-at.invariant _ c.read_timing-then-at-log.ensures.one_read _ c.if-at-log.true
+    c.in_err-read_timing-2.was c.from_residual-in_err-read_timing-2.ensures.1
 
-pub returns-then-at-log : goal.returns-then-at-log
-returns-then-at-log c =
-    log_cut _ _ _ _ _ _ c.loop-at.invariant _ _ c.read_timing-cut.ensures.one_read _ c.if-at-log.true (omega arith) _ refl
+pub returns-in_ok-read_timing-2 : goal.returns-in_ok-read_timing-2
+returns-in_ok-read_timing-2 c = λ job p n h.
+    let whole = log_whole _ _ _ _ _ _ c.loop-at.invariant _ c.read_timing-then-at-log.ensures.one_read c.in_ok-read_timing-2.was job p n h in
+    absurd (let z : ⊥ = omega (arith, whole, c.loop-at-test.false) in z)
 
-pub returns : goal.returns
-returns c = log_done _ _ _ _ _ _ c.loop-at.invariant (omega arith) _ refl _ refl
+pub returns-else-at-log : goal.returns-else-at-log
+returns-else-at-log c = log_done _ _ _ _ _ _ c.loop-at.invariant (omega arith)

@@ -1,53 +1,36 @@
 -- `history::log::read_timing` meets its contract.
+use mathlib.Core.Path.{refl}
 use native.Mathlib.Omega.{arith}
 use Rattle.reader.proofs.NumberLaws.{is_good}
-use Rattle.reader.proofs.Chain.{handed}
 use Rattle.history.proofs.LogLaws.{timing_task, timing_node, timing_ticks, timing_done}
 use Rattle.history.proofs.log.read_timing.Goals as goal
 
-pub returns-in_default : goal.returns-in_default
-returns-in_default c =
-    record {
-      task_lt_max_tasks = (omega (arith, c.no_timing.ensures.1), omega (arith, c.no_timing.ensures.2));
-      one_read = λ job p n h. timing_task _ _ _ _ job p n _ c.field-t.ensures c.in_default.is
-          (handed c.no_timing.ensures.0 c.in_default.is);
-    }
+pub returns-in_err-task-clause-one_read : goal.returns-in_err-task-clause-one_read
+returns-in_err-task-clause-one_read c =
+    λ job p n h. timing_task _ _ _ _ job p n _ _ c.field.ensures c.in_err-task.was c.from_residual.ensures.1
 
-pub read_node-n-requires : goal.read_node-n-requires
-read_node-n-requires c = (
+pub read_node-requires : goal.read_node-requires
+read_node-requires c = (
   omega arith,
   c.requires.3,
   c.requires.4,
-  omega (arith, is_good _ _ _ _ _ _ c.field-t.ensures c.in-Is.is),
+  omega (arith, is_good _ _ _ _ _ _ c.field.ensures c.in_ok-task.was),
 )
 
-pub returns-in_default-n : goal.returns-in_default-n
-returns-in_default-n c =
-    record {
-      task_lt_max_tasks = (omega (arith, c.no_timing-in_default-n.ensures.1), omega (arith, c.no_timing-in_default-n.ensures.2));
-      one_read = λ job p n h. timing_node _ _ _ _ job p n _ c.field-t.ensures
-          _ c.in-Is.is _ (c.read_node-n.ensures.value job h)
-          c.in_default-n.is (handed c.no_timing-in_default-n.ensures.0 c.in_default-n.is);
-    }
+pub returns-in_err-node-clause-one_read : goal.returns-in_err-node-clause-one_read
+returns-in_err-node-clause-one_read c =
+    λ job p n h. timing_node _ _ _ _ job p n _ _ c.field.ensures _ c.in_ok-task.was _ (c.read_node.ensures.value job h)
+    c.in_err-node.was c.from_residual-in_err-node.ensures.1
 
-pub returns-in_default-d : goal.returns-in_default-d
-returns-in_default-d c =
-    record {
-      task_lt_max_tasks = (omega (arith, c.no_timing-in_default-d.ensures.1), omega (arith, c.no_timing-in_default-d.ensures.2));
-      one_read = λ job p n h. timing_ticks _ _ _ _ job p n _ c.field-t.ensures
-          _ c.in-Is.is _ (c.read_node-n.ensures.value job h)
-          _ c.in-Is-n.is _ c.field-d.ensures
-          c.in_default-d.is (handed c.no_timing-in_default-d.ensures.0 c.in_default-d.is);
-    }
+pub returns-in_err-ticks-clause-one_read : goal.returns-in_err-ticks-clause-one_read
+returns-in_err-ticks-clause-one_read c =
+    λ job p n h. timing_ticks _ _ _ _ job p n _ _ c.field.ensures _ c.in_ok-task.was _ (c.read_node.ensures.value job h)
+    _ c.in_ok-node.was _ c.field-2.ensures c.in_err-ticks.was c.from_residual-in_err-ticks.ensures.1
 
-pub returns : goal.returns
-returns c =
-    record {
-      task_lt_max_tasks = (
-        omega (arith, is_good _ _ _ _ _ _ c.field-t.ensures c.in-Is.is),
-        c.read_node-n.ensures.by_index _ c.in-Is-n.is,
-      );
-      one_read = λ job p n h. timing_done _ _ _ _ job p n _ c.field-t.ensures
-          _ c.in-Is.is _ (c.read_node-n.ensures.value job h)
-          _ c.in-Is-n.is _ c.field-d.ensures _ c.in-Is-d.is;
-    }
+pub returns-clause-within : goal.returns-clause-within
+returns-clause-within c = (omega (arith, is_good _ _ _ _ _ _ c.field.ensures c.in_ok-task.was), c.in_ok-node.ensures.by_index)
+
+pub returns-clause-one_read : goal.returns-clause-one_read
+returns-clause-one_read c =
+    λ job p n h. timing_done _ _ _ _ job p n _ _ c.field.ensures _ c.in_ok-task.was _ (c.read_node.ensures.value job h)
+    _ c.in_ok-node.was _ c.field-2.ensures _ c.in_ok-ticks.was refl
