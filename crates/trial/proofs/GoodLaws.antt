@@ -3,7 +3,7 @@ use Prim.Native.Nat.{ℕ, ◌+◌, ◌-◌, ◌*◌, ◌≤◌, ◌<◌}
 use mathlib.Core.Bool.{Bool, true, false, not}
 use mathlib.Core.List.{List}
 use mathlib.Core.Logic.{◌↔◌}
-use mathlib.Core.Option.{none}
+use mathlib.Core.Option.{Option, none, some}
 use mathlib.Core.Path.{◌≡◌, refl, sym, ◌∙◌, ap, ap₂, subst}
 use lib.Dec.{leb, ltb}
 use lib.ListN.{get_or}
@@ -13,7 +13,7 @@ use Rattle.reader.specs.declared.job.Job.{Job}
 use Rattle.reader.specs.declared.refusal.Refusal.{Refusal}
 use Rattle.reader.specs.declared.refusal.Refusal.TheVariants.{Overlap}
 use Rattle.reader.specs.Refusals.{Answer}
-use Rattle.std.specs.Prelude.{Ok, Err}
+use Rattle.std.specs.Result.{is_ok}
 use Rattle.reader.specs.Tests.{◌and◌, ◌or◌, ◌implies◌}
 use Rattle.reader.specs.First.{first, every, any}
 use Rattle.reader.specs.Entries.{tasks, deadline, no_node}
@@ -21,7 +21,6 @@ use Rattle.reader.specs.Refusals.{answered}
 use Rattle.reader.proofs.TestLaws.{split, clash, never, not_true, and_l, and_r, and_i, imp_e, imp_i, not_e, not_i}
 use Rattle.reader.proofs.FirstLaws.{every_i, every_e, any_i, any_e}
 use Rattle.reader.proofs.FirstFails.{no_pair_fail}
-use Rattle.reader.proofs.RefusalLaws.{answered_done}
 use Rattle.rules.specs.declared.Copy.{Copy}
 use Rattle.rules.specs.declared.Loss.TheVariants.{Lost}
 use Rattle.rules.specs.Copies.{overlap, domain}
@@ -48,6 +47,11 @@ use Rattle.trial.proofs.PlacedLaws.{copied_at}
 -- a full word
 pub full : (v : ℕ) (f : ℕ → Bool) → Tells v f → (is_full v ≡ true) ↔ ((r : ℕ) → r < run_count → f r ≡ true)
 full v f t = (λ h. (none_missing v f t).0 (eqb-true _ 0 h), λ h. eq-eqb _ 0 ((none_missing v f t).1 h))
+
+-- nothing was refused
+none_ok : (o : Option Refusal) → (is_ok (answered o) ≡ true) ↔ (o ≡ none)
+none_ok none = (λ h. refl, λ h. refl)
+none_ok (some r) = (λ h. never (cc), λ h. never (cc))
 
 -- done by the deadline: a copy that ended by then
 done_by_lem : (by : ℕ) (r : Row) (x : TaskRun) → 1 ≤ r.primary.finish → 1 ≤ r.backup.finish
@@ -215,12 +219,12 @@ module _ (job : Job) (cs : Copies) (leave : List ℕ) (w : Placed job cs leave) 
     pub not_done : (strict v : Bool) → v ≡ every (tasks job) (done_in job.tasks cs.finish y.ended) → v ≡ false → Says strict false
     not_done strict v is e = (λ h. clash false h refl, λ p. clash _ ((passes_is strict).1 p).1 (sym is ∙ e))
 
-    -- of the answer for pairs
-    module _ (strict : Bool) (v : Answer)
-        (is : v ≡ answered (first (tasks job) (pair_breach (table cs.node cs.start cs.finish y.started) (tasks job)))) where
-      pub not_apart : (r : Refusal) → v ≡ Err r → Says strict false
-      not_apart r e = (λ h. clash false h refl, λ p. let passed = (answered_done _).1 ((passes_is strict).1 p).2 in never (cc))
-
-      pub passing : (strict implies every (tasks job) (ends_in y.ended)) ≡ true → (d : Bool) → d ≡ every (tasks job) (done_in job.tasks cs.finish y.ended)
-          → d ≡ true → v ≡ Ok tt → Says strict true
-      passing ends d id ed ev = (λ h. (passes_is strict).0 (ends, sym id ∙ ed, (answered_done _).0 (sym is ∙ ev)), λ p. refl)
+    -- where ends and deadlines are kept, the answer for pairs decides
+    pub apart_says : (strict : Bool) → (strict implies every (tasks job) (ends_in y.ended)) ≡ true
+        → (d : Bool) → d ≡ every (tasks job) (done_in job.tasks cs.finish y.ended) → d ≡ true
+        → (v : Answer) → v ≡ answered (first (tasks job) (pair_breach (table cs.node cs.start cs.finish y.started) (tasks job)))
+        → (b : Bool) → b ≡ is_ok v → Says strict b
+    apart_says strict ends d id ed v iv b ib = (
+      λ h. (passes_is strict).0 (ends, sym id ∙ ed, (none_ok _).0 (ap is_ok (sym iv) ∙ sym ib ∙ h)),
+      λ p. ib ∙ ap is_ok iv ∙ (none_ok _).1 ((passes_is strict).1 p).2,
+    )

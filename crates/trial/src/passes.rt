@@ -13,13 +13,12 @@ use copies::sets::ALL;
 use copies::table::Copies;
 use judge::overlaps::overlapping;
 use reader::job::Job;
-use reader::refusal::Answer;
 
-// No group has this number: that of the loss of nothing.
+// No group has this number: that of the loss of nothing. Hot loops compare it, so it is no Option.
 const NO_GROUP: u32 = 16;
 
 // The losses of the primaries from that of task `first` on. Where there is none, nothing is lost.
-fn set_losses<'c>(job: &'c Job, copies: &'c Copies, first: usize) -> Losses
+fn set_losses(job: &Job, copies: &Copies, first: usize) -> Losses
     requires { Losable job.now.nodes copies.now.node copies.now.finish (tasks job.now) × (first ≤ max_tasks) }
     ensures { LossesFrom job.now.nodes copies.now.node copies.now.finish first (tasks job.now) result }
 {
@@ -42,7 +41,8 @@ fn set_losses<'c>(job: &'c Job, copies: &'c Copies, first: usize) -> Losses
 }
 
 // Whether in every run each task is done by its deadline.
-fn all_done<'c>(job: &'c Job, copies: &'c Copies, outcomes: &'c Outcomes) -> bool
+#[tactic(auto, using(reader::proofs::FirstLaws::every_start))]
+fn all_done(job: &Job, copies: &Copies, outcomes: &Outcomes) -> bool
     requires { tasks job.now ≤ max_tasks }
     ensures { result ≡ every (tasks job.now) (done_in job.now.tasks copies.now.finish outcomes.now.ended) }
 {
@@ -64,6 +64,7 @@ fn all_done<'c>(job: &'c Job, copies: &'c Copies, outcomes: &'c Outcomes) -> boo
 }
 
 // Whether in every run each of the first n primaries ends.
+#[tactic(auto, using(reader::proofs::FirstLaws::every_start))]
 fn all_end(outcomes: &Outcomes, n: usize) -> bool
     requires { n ≤ max_tasks }
     ensures { result ≡ every n (ends_in outcomes.now.ended) }
@@ -79,14 +80,15 @@ fn all_end(outcomes: &Outcomes, n: usize) -> bool
 // Whether the runs with the losses of the primaries from `first` on are good: each task is done by its deadline, and no two started copies overlap.
 // As the set of a copy the judge is lent the runs in which it starts: it finds copies that overlap and whose sets meet. If `strict`, every primary must
 // end too.
-pub fn pass<'c>(
-    job: &'c Job,
-    copies: &'c Copies,
-    leave: &'c [u32; Copies::COUNT],
+pub fn pass(
+    job: &Job,
+    copies: &Copies,
+    leave: &[u32; Copies::COUNT],
     first: usize,
     strict: bool,
 ) -> bool
-    requires { Placed job.now copies.now leave.now × (first ≤ max_tasks) }
+    requires placed { Placed job.now copies.now leave.now }
+    requires within { first ≤ max_tasks }
     ensures { (w : Placed job.now copies.now leave.now)
         → (result ≡ true) ↔ Passes job.now w.plan first strict }
 {
@@ -99,9 +101,9 @@ pub fn pass<'c>(
     if !all_done(job, copies, &outcomes) {
         return false;
     }
-    let started = outcomes.started;
-    let Answer::Done = overlapping(&copies.node, &copies.start, &copies.finish, &started, n) else {
-        return false;
+    let marked = Copies {
+        set: outcomes.started,
+        ..*copies
     };
-    true
+    overlapping(&marked, n).is_ok()
 }

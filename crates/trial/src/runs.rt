@@ -25,10 +25,10 @@ fn fed_by(p: Outgoing, b: Outgoing, x: u32, y: u32, c: Copy) -> u32
 }
 
 // The results of a task whose copies are settled go out by a link.
-fn send<'c>(
-    copies: &'c Copies,
-    leave: &'c [u32; Copies::COUNT],
-    outcomes: &'c Outcomes,
+fn send(
+    copies: &Copies,
+    leave: &[u32; Copies::COUNT],
+    outcomes: &Outcomes,
     l: Link,
     fed: &mut [u32; Copies::COUNT],
 )
@@ -47,16 +47,17 @@ fn send<'c>(
 }
 
 // Sends by the links of the tasks before j, from link k on, and says which link is next. Links rise by from.
-fn send_before<'c>(
-    job: &'c Job,
-    copies: &'c Copies,
-    leave: &'c [u32; Copies::COUNT],
-    outcomes: &'c Outcomes,
+fn send_before(
+    job: &Job,
+    copies: &Copies,
+    leave: &[u32; Copies::COUNT],
+    outcomes: &Outcomes,
     j: usize,
     k: usize,
     fed: &mut [u32; Copies::COUNT],
 ) -> usize
-    requires { Placed job.now copies.now leave.now × (k ≤ links job.now) }
+    requires placed { Placed job.now copies.now leave.now }
+    requires within { k ≤ links job.now }
     ensures upto { (w : Placed job.now copies.now leave.now) (losses : Losses)
         → Upto job.now w.plan losses j k fed.old outcomes.now → Upto job.now w.plan losses j result fed.new outcomes.now }
     ensures left { result < links job.now → j ≤ (link job.now result).from }
@@ -74,11 +75,11 @@ fn send_before<'c>(
 
 // In which runs the copies of task j end and start, of which it is known in which they have their inputs. A backup is called on where its primary
 // does not end.
-fn settle<'c>(
-    job: &'c Job,
-    copies: &'c Copies,
-    fed: &'c [u32; Copies::COUNT],
-    losses: &'c Losses,
+fn settle(
+    job: &Job,
+    copies: &Copies,
+    fed: &[u32; Copies::COUNT],
+    losses: &Losses,
     j: usize,
     outcomes: &mut Outcomes,
 )
@@ -103,11 +104,11 @@ fn settle<'c>(
 }
 
 // Tasks go by number, and a task's results go out by its links before the next task, as replay has it.
-pub fn run_all<'c>(
-    job: &'c Job,
-    copies: &'c Copies,
-    leave: &'c [u32; Copies::COUNT],
-    losses: &'c Losses,
+pub fn run_all(
+    job: &Job,
+    copies: &Copies,
+    leave: &[u32; Copies::COUNT],
+    losses: &Losses,
 ) -> Outcomes
     requires { Placed job.now copies.now leave.now }
     ensures { (w : Placed job.now copies.now leave.now)

@@ -9,8 +9,7 @@ use copies::sets::bit_of;
 // How many.
 pub const RUNS: usize = 32;
 
-// What each run loses: run r the group lost[r], at moment[r]. A run without loss has a number that is no group's, and no Option: these numbers are
-// compared in the hot loop, all 32 at once.
+// What each run loses: run r the group lost[r], at moment[r]. Two arrays of numbers, since the hot loop compares 32 of each at once.
 #[derive(Clone, Copy)]
 pub struct Losses {
     pub lost: [u32; RUNS],
@@ -18,6 +17,7 @@ pub struct Losses {
 }
 
 // The runs of b that are not in a.
+#[tactic(auto, using(crate::proofs::WordLaws::without_lem))]
 pub fn without(b: u32, a: u32) -> u32
     ensures { result ≡ without_of b a }
 {
@@ -40,6 +40,7 @@ fn stays(lost: u32, moment: u32, group: u32, by: u32) -> bool
 
 impl Losses {
     // The runs in which it is.
+    #[tactic(auto, using(crate::proofs::WordLaws::spared_start))]
     pub fn spared(&self, group: u32, by: u32) -> u32
         ensures { result ≡ spared_in self.now group by run_count }
     {

@@ -1,34 +1,19 @@
 -- `trial::trial_plan` meets its contract.
 use Rattle.std.proofs.Common.{false, refl, sym, ◌∙◌, arith}
 use Rattle.reader.proofs.TestLaws.{clash}
-use Rattle.trial.proofs.TrialLaws.{holds, pass_fails, few_pass, last_pass}
+use Rattle.trial.proofs.TrialLaws.{pass_fails, few_pass, last_pass}
 use Rattle.trial.proofs.trial_plan.Goals as goal
 use Rattle.trial.proofs.trial_plan.Goals.{then-pass, else-pass}
-
-pub pass-requires : goal.pass-requires
-pass-requires c =
-    let pre = c.requires in
-    (holds _ _ pre.0 pre.1 _ _ _ (c.place_copies.ensures c.args.job), pre.0.tasks_most)
-
-pub pass-requires-then-pass : goal.pass-requires-then-pass
-pass-requires-then-pass c =
-    let pre = c.requires in
-    (holds _ _ pre.0 pre.1 _ _ _ (c.place_copies.ensures c.args.job), omega arith)
-
-pub pass-requires-else-n-le-RUNS : goal.pass-requires-else-n-le-RUNS
-pass-requires-else-n-le-RUNS c =
-    let pre = c.requires in
-    (holds _ _ pre.0 pre.1 _ _ _ (c.place_copies.ensures c.args.job), omega arith)
 
 pub returns-else-pass-2 : goal.returns-else-pass-2
 returns-else-pass-2 c =
     let pre = c.requires in
     elim c.if-pass.branch [
       | then-pass w ↦
-          pass_fails _ _ pre.0 pre.1 _ _ _ (c.place_copies.ensures c.args.job) _ _ _ w.pass-then-pass.ensures (λ s. clash false s refl)
+          pass_fails _ _ pre.0 pre.1 _ _ _ c.place_copies.ensures _ _ _ w.pass-then-pass.ensures (λ s. clash false s refl)
           (sym w.value-is ∙ c.if-pass-2.false) _ c.if-pass-2.false
       | else-pass w ↦
-          pass_fails _ _ pre.0 pre.1 _ _ _ (c.place_copies.ensures c.args.job) _ _ _ c.pass.ensures (λ s. omega arith)
+          pass_fails _ _ pre.0 pre.1 _ _ _ c.place_copies.ensures _ _ _ c.pass.ensures (λ s. omega arith)
           w.if-pass.false _ c.if-pass-2.false
     ]
 
@@ -37,7 +22,7 @@ returns-then-n-le-RUNS c =
     let pre = c.requires in
     elim c.if-pass.branch [
       | then-pass w ↦
-          few_pass _ _ pre.0 pre.1 _ _ _ (c.place_copies.ensures c.args.job) _ _ c.pass.ensures w.if-pass.true
+          few_pass _ _ pre.0 pre.1 _ _ _ c.place_copies.ensures _ _ c.pass.ensures w.if-pass.true
           w.pass-then-pass.ensures (sym w.value-is ∙ c.if-pass-2.true) c.if-n-le-RUNS.true
       | else-pass w ↦ clash _ (sym w.value-is ∙ c.if-pass-2.true) w.if-pass.false
     ]
@@ -47,7 +32,7 @@ returns-else-n-le-RUNS c =
     let pre = c.requires in
     elim c.if-pass.branch [
       | then-pass w ↦
-          last_pass _ _ pre.0 pre.1 _ _ _ (c.place_copies.ensures c.args.job) _ _ c.pass.ensures w.if-pass.true
+          last_pass _ _ pre.0 pre.1 _ _ _ c.place_copies.ensures _ _ c.pass.ensures w.if-pass.true
           w.pass-then-pass.ensures (sym w.value-is ∙ c.if-pass-2.true) _ c.pass-else-n-le-RUNS.ensures
       | else-pass w ↦ clash _ (sym w.value-is ∙ c.if-pass-2.true) w.if-pass.false
     ]

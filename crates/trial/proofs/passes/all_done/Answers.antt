@@ -1,11 +1,7 @@
 -- `trial::passes::all_done` meets its contract.
 use borrow.Author.Tests.{eq-eqb, ne_eqb}
-use Rattle.reader.proofs.FirstLaws.{every_start}
 use Rattle.trial.proofs.PassLaws.{done_is, stops, goes}
 use Rattle.trial.proofs.passes.all_done.Goals as goal
-
-pub loop-j-init : goal.loop-j-init
-loop-j-init c = every_start _
 
 pub returns-then-done : goal.returns-then-done
 returns-then-done c =

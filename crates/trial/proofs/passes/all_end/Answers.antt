@@ -1,12 +1,8 @@
 -- `trial::passes::all_end` meets its contract.
 use Rattle.std.proofs.Common.{rules}
 use borrow.Author.Tests.{eq-eqb, ne_eqb}
-use Rattle.reader.proofs.FirstLaws.{every_start}
 use Rattle.trial.proofs.PassLaws.{ends_is, stops, goes}
 use Rattle.trial.proofs.passes.all_end.Goals as goal
-
-pub loop-j-init : goal.loop-j-init
-loop-j-init c = every_start _
 
 pub returns-then-outcomes-j : goal.returns-then-outcomes-j
 returns-then-outcomes-j c =

@@ -7,8 +7,8 @@ use Rattle.trial.proofs.runs.run_all.Goals as goal
 pub loop-j-init : goal.loop-j-init
 loop-j-init c = λ w. upto_start _ _ _ w _ _ refl refl
 
-pub send_before-k-requires : goal.send_before-k-requires
-send_before-k-requires c = (c.requires, (c.loop-j.invariant c.requires).links_within)
+pub send_before-k-requires-clause-within : goal.send_before-k-requires-clause-within
+send_before-k-requires-clause-within c = (c.loop-j.invariant c.requires).links_within
 
 pub settle-requires : goal.settle-requires
 settle-requires c = settleable _ _ _ c.requires _ c.loop-j-test.true

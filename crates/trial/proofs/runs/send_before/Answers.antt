@@ -9,4 +9,4 @@ loop-i-preserved c =
 
 pub returns-clause-upto : goal.returns-clause-upto
 returns-clause-upto c =
-    λ w losses u. upto_link _ _ _ w losses _ _ _ _ (c.loop-i.invariant w losses u) _ (omega (arith, c.requires.1, c.loop-i.auto.i-end))
+    λ w losses u. upto_link _ _ _ w losses _ _ _ _ (c.loop-i.invariant w losses u) _ (omega (arith, c.requires.within, c.loop-i.auto.i-end))

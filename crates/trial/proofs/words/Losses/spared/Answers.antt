@@ -1,10 +1,7 @@
 -- `trial::words::Losses::spared` meets its contract.
 use Rattle.std.proofs.Common.{cond, ◌∙◌, ap₂}
-use Rattle.trial.proofs.WordLaws.{spared_start, spared_more}
+use Rattle.trial.proofs.WordLaws.{spared_more}
 use Rattle.trial.proofs.words.Losses.spared.Goals as goal
-
-pub loop-r-init : goal.loop-r-init
-loop-r-init c = spared_start _ _ _
 
 pub loop-r-preserved : goal.loop-r-preserved
 loop-r-preserved c =
