@@ -9,7 +9,6 @@ use native.Mathlib.Omega.{arith}
 use Rattle.reader.specs.declared.job.Job.{Job}
 use Rattle.reader.specs.declared.plan.Plan.{Plan}
 use Rattle.reader.specs.declared.refusal.Refusal.{Refusal}
-use Rattle.reader.specs.Refusals.{Answer}
 use Rattle.std.specs.Prelude.{Ok, Err}
 use Rattle.reader.specs.JobFile.{job_at}
 use Rattle.reader.specs.Refusals.{tell, packed, answered, result_number}
@@ -27,10 +26,9 @@ use Rattle.seqopchi.proofs.Unpacked.{judge_unpacks}
 use Rattle.trial.specs.Calls.{Answers, TrialAnswers}
 
 -- a file is refused, and that is handed on
-pub tried_stops : (file plan : List ℕ) {r : Refusal} (a : Answer) (n : ℕ) → files_fault file plan ≡ some r → a ≡ Err r → n ≡ result_number a
-    → TrialAnswers file plan n
+pub tried_stops : (file plan : List ℕ) {r : Refusal} (n : ℕ) → files_fault file plan ≡ some r → n ≡ result_number (Err r) → TrialAnswers file plan n
 unfolding Answers
-tried_stops file plan a n bad q e = rw bad (e ∙ ap result_number q)
+tried_stops file plan n bad e = rw bad e
 
 -- both read well, and the plan is tried
 module _ (file plan : List ℕ) (job : Job) (places : Plan) (d : FilesDone file plan job places) (v : Bool) (is : (v ≡ true) ↔ Trial job places) where

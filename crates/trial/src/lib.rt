@@ -8,10 +8,7 @@ pub mod words;
 
 ghost use Rattle.std.specs.Prelude.{true, ◌↔◌, ◌≡◌};
 ghost use Rattle.reader.specs.Sound.{Sound, PlanSound};
-ghost use Rattle.reader.specs.Reads.{Reads};
-ghost use Rattle.reader.specs.JobFile.{job_at};
 ghost use Rattle.rules.specs.Trial.{Trial};
-ghost use Rattle.seqopchi.specs.Files.{plan_in, files_fault};
 ghost use Rattle.trial.specs.Calls.{TrialAnswers};
 
 use crate::passes::pass;
@@ -19,10 +16,9 @@ use crate::words::RUNS;
 use copies::table::Copies;
 use judge::tasks::place_copies;
 use reader::job::Job;
-use reader::job_file::read_job;
 use reader::plan::Plan;
-use reader::plan_file::read_plan;
-use reader::refusal::{Refusal, result_number};
+use reader::refusal::result_number;
+use seqopchi::read_files;
 
 // Number 0 and first place 1.
 const NO: u64 = 256;
@@ -41,22 +37,12 @@ pub fn trial_plan(job: Job, plan: Plan) -> bool
         && (n <= RUNS || pass(&job, &copies, &leave, RUNS, false))
 }
 
-fn try_files(job: &[u8], plan: &[u8]) -> Result<bool, Refusal>
-    ensures { Reads (files_fault job.now plan.now) result
-        (λ yes. (yes ≡ true) ↔ Trial (job_at job.now) (plan_in job.now plan.now)) }
-{
-    let value = read_job(job)?;
-    let places = read_plan(plan, value)?;
-    Ok(trial_plan(value, places))
-}
-
 // Tries two files: 0 is yes.
 pub fn seqopchi_trial(job: &[u8], plan: &[u8]) -> u64
     ensures { TrialAnswers job.now plan.now result }
 {
-    match try_files(job, plan) {
-        Ok(true) => 0,
-        Ok(false) => NO,
+    match read_files(job, plan) {
+        Ok((value, places)) => if trial_plan(value, places) { 0 } else { NO },
         Err(refusal) => result_number(Err(refusal)),
     }
 }
