@@ -30,9 +30,9 @@ pub struct Outcomes {
 
 // Tasks go by number, and a task's result goes out by its links before the next task. Links rise by from, so each is looked at once.
 // A primary waits for its task's ready time too. Copies take the times that are given, or the listed ones.
-pub fn replay_plan(job: Job, plan: Plan, times: Option<&Times>, loss: Loss) -> Outcomes
-    requires { Sound job × PlanSound job plan × TimesSound job plan (chosen (option_copied times) job plan) }
-    ensures { result ≡ outcomes job plan (chosen (option_copied times.entry) job plan) loss }
+pub fn replay_plan(job: &Job, plan: &Plan, times: Option<&Times>, loss: Loss) -> Outcomes
+    requires { Sound job.now × PlanSound job.now plan.now × TimesSound job.now plan.now (chosen (option_copied times) job.now plan.now) }
+    ensures { result ≡ outcomes job.now plan.now (chosen (option_copied times.entry) job.now plan.now) loss }
 {
     let n = job.task_count as usize;
     let m = job.link_count as usize;
@@ -58,13 +58,13 @@ pub fn replay_plan(job: Job, plan: Plan, times: Option<&Times>, loss: Loss) -> O
 }
 
 // Replays, and writes what that tells of each task of the job.
-pub fn replay_into(job: Job, plan: Plan, times: Option<&Times>, loss: Loss, out: &mut [u8])
-    requires { Sound job
-        × PlanSound job plan
-        × TimesSound job plan (chosen (option_copied times) job plan)
-        × (12 * tasks job ≤ length out.old) }
+pub fn replay_into(job: &Job, plan: &Plan, times: Option<&Times>, loss: Loss, out: &mut [u8])
+    requires { Sound job.now
+        × PlanSound job.now plan.now
+        × TimesSound job.now plan.now (chosen (option_copied times) job.now plan.now)
+        × (12 * tasks job.now ≤ length out.old) }
     ensures { out.new
-        ≡ replay_bytes job plan (chosen (option_copied times.entry) job plan) loss ++ drop (12 * tasks job) out.old }
+        ≡ replay_bytes job.now plan.now (chosen (option_copied times.entry) job.now plan.now) loss ++ drop (12 * tasks job.now) out.old }
 {
     let o = replay_plan(job, plan, times, loss);
     let n = job.task_count as usize;

@@ -55,9 +55,9 @@ fn read_took(file: &[u8], at: usize, most: Took) -> Result<Took, Refusal>
 }
 
 // A whole list, after its job and plan.
-fn read_times(file: &[u8], job: Job, plan: Plan) -> Result<Times, Refusal>
-    requires { Sound job × PlanSound job plan }
-    ensures { result ≡ resulted (times_fault file.now job plan) (times_at file.now (tasks job)) }
+fn read_times(file: &[u8], job: &Job, plan: &Plan) -> Result<Times, Refusal>
+    requires { Sound job.now × PlanSound job.now plan.now }
+    ensures { result ≡ resulted (times_fault file.now job.now plan.now) (times_at file.now (tasks job.now)) }
 {
     let none = Took {
         primary: 0,
@@ -76,9 +76,10 @@ fn read_times(file: &[u8], job: Job, plan: Plan) -> Result<Times, Refusal>
 }
 
 // The list, where one is given. Where none is, there is nothing to refuse.
-pub fn read_list(job: Job, plan: Plan, list: Option<&[u8]>) -> Result<Option<Times>, Refusal>
-    requires { Sound job × PlanSound job plan }
-    ensures { result ≡ resulted (list_fault (list_of list.entry) job plan) (times_in (list_of list.entry) job) }
+pub fn read_list(job: &Job, plan: &Plan, list: Option<&[u8]>) -> Result<Option<Times>, Refusal>
+    requires { Sound job.now × PlanSound job.now plan.now }
+    ensures { result
+        ≡ resulted (list_fault (list_of list.entry) job.now plan.now) (times_in (list_of list.entry) job.now) }
 {
     match list {
         Some(file) => Ok(Some(read_times(file, job, plan)?)),

@@ -88,9 +88,9 @@ fn replay_files(
 {
     let (job, plan) = read_files(job, plan)?;
     lost_group(loss, &job)?;
-    let times = read_list(job, plan, list)?;
+    let times = read_list(&job, &plan, list)?;
     room(out, 12 * (job.task_count as usize))?;
-    replay_into(job, plan, times.as_ref(), loss, out);
+    replay_into(&job, &plan, times.as_ref(), loss, out);
     Ok(())
 }
 

@@ -31,4 +31,4 @@ returns-then-end-file c = refused _ (times_tail _ _ _ _ _ c.loop-j.invariant (om
 pub returns : goal.returns
 returns c =
     let all = c.loop-j.invariant in
-    given _ (times_whole _ _ _ _ _ all (omega arith) c.if-end-file.false) (times_are _ c.args.job c.args.plan _ _ all (omega arith))
+    given _ (times_whole _ _ _ _ _ all (omega arith) c.if-end-file.false) (times_are _ c.args.job.now c.args.plan.now _ _ all (omega arith))
