@@ -14,9 +14,9 @@ use Rattle.reader.proofs.TestLaws.{below_suc}
 use Rattle.reader.proofs.FillLaws.{fill_same}
 use Rattle.reader.proofs.Accepted.{job_good}
 use Rattle.reader.proofs.LengthLaws.{job_length_lem}
-use Rattle.reader.proofs.Promise.{none_value}
+use Rattle.reader.proofs.RefusalLaws.{resulted_value}
 use Rattle.writer.specs.Write.{job_bytes, plan_bytes}
-use Rattle.writer.proofs.SoundReads.{sound_job_reads, sound_plan_reads}
+use Rattle.writer.proofs.SoundReads.{sound_job_reads}
 use Rattle.writer.proofs.SoundWrites.{filled_plan_reread}
 use Rattle.writer.proofs.FilledJob.{RunFilled, Filled, filled_job_reread}
 use Rattle.rules.specs.declared.Description.{Description}
@@ -50,8 +50,7 @@ module _ (job : Job) (d : Description) (room : Room job d) where
         → plan_at (plan_bytes (longer_plan job plan x)) (tasks big) ≡ longer_plan job plan x
     unfolding read_plan longer_plan longer_job
     longer_plan_reread plan x planned =
-        sym (none_value (plan_fault (plan_bytes (longer_plan job plan x)) big) _ _ (sound_plan_reads big _ sound planned))
-        ∙ filled_plan_reread big _ (put (place plan) (tasks job) x) sound planned refl
+        sym (resulted_value _ (plan_fault (plan_bytes (longer_plan job plan x)) big) (filled_plan_reread big _ (put (place plan) (tasks job) x) sound planned refl))
 
 -- the bytes of a job that reads back as itself
 pub job_bytes_length : (job : Job) → Sound job → job_at (job_bytes job) ≡ job

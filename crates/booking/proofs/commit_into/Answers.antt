@@ -1,27 +1,24 @@
 -- A commit into two buffers: refused, or the longer job or plan has no room, or both are written.
-use native.Mathlib.Omega.{arith}
-use Rattle.writer.proofs.PutLaws.{put_size}
+use Rattle.reader.proofs.NumberLaws.{is_none, is_fault}
 use Rattle.booking.proofs.CommitCalls.{into_refused, no_job_room, no_plan_room, both_written}
 use Rattle.booking.proofs.commit_into.Goals as goal
 
-pub returns-in_default : goal.returns-in_default
-returns-in_default c = into_refused _ _ _ _ _ _ c.commit_files-booked.ensures c.in_default.is
+pub returns-in_err-job : goal.returns-in_err-job
+returns-in_err-job c = into_refused _ _ _ _ _ c.commit_files.ensures c.in_err-job.was _ c.from_residual.ensures.1
 
-pub returns-then-out_job-len : goal.returns-then-out_job-len
-returns-then-out_job-len c =
-    no_job_room _ _ _ _ _ _ c.commit_files-booked.ensures c.in-Done.is
-    c.put_job-len.ensures.1 c.if-out_job-len.true
+pub returns-in_err-room : goal.returns-in_err-room
+returns-in_err-room c =
+    no_job_room _ _ _ _ _ c.commit_files.ensures c.in_ok-job.was c.put_job-len.ensures.1
+    (is_fault _ _ _ c.room.ensures.answer c.in_err-room.was) _ c.from_residual-in_err-room.ensures.1
 
-pub returns-then-out_plan-need : goal.returns-then-out_plan-need
-returns-then-out_plan-need c =
-    no_plan_room _ _ _ _ _ _ c.commit_files-booked.ensures c.in-Done.is
-    c.put_job-len.ensures.1 c.if-out_job-len.false c.if-out_plan-need.true
-
-pub slice_bounds-send-end : goal.slice_bounds-send-end
-slice_bounds-send-end c = put_size c.put_job-len.ensures.1 (omega arith)
+pub returns-in_err-room-2 : goal.returns-in_err-room-2
+returns-in_err-room-2 c =
+    no_plan_room _ _ _ _ _ c.commit_files.ensures c.in_ok-job.was c.put_job-len.ensures.1
+    (is_none _ _ _ c.room.ensures.answer c.in_ok-room.was) (is_fault _ _ _ c.room-2.ensures.answer c.in_err-room-2.was) _
+    c.from_residual-in_err-room-2.ensures.1
 
 pub returns : goal.returns
 returns c =
-    both_written _ _ _ _ _ _ c.commit_files-booked.ensures c.in-Done.is
-    c.put_job-len.ensures.1 c.if-out_job-len.false c.if-out_plan-need.false c.send.ensures
-    c.put_plan.ensures.1
+    rw c.copy_from_slice.ensures.after
+    (both_written _ _ _ _ _ c.commit_files.ensures c.in_ok-job.was c.put_job-len.ensures.1
+    (is_none _ _ _ c.room.ensures.answer c.in_ok-room.was) (is_none _ _ _ c.room-2.ensures.answer c.in_ok-room-2.was) c.put_plan.ensures.1)

@@ -1,32 +1,24 @@
--- Both files read and judged: a refusal of either, or the judge's answer with what was read.
-use mathlib.Core.Path.{◌∙◌}
-use Rattle.seqopchi.proofs.ReadLaws.{job_sound, job_stops, plan_stops, files_done, both_sound}
-use Rattle.booking.proofs.AskCalls.{passed_stops, passed_reads}
+-- Both files read and judged: a refusal of either, or of the judge, or both.
+use Rattle.std.proofs.Common.{ap₂}
+use Rattle.reader.proofs.NumberLaws.{is_none, is_fault}
+use Rattle.reader.proofs.Chain.{stop, handed, given}
+use Rattle.seqopchi.specs.Files.{judge_files}
+use Rattle.seqopchi.proofs.ReadLaws.{files_bad, files_done, both_sound, judged}
 use Rattle.booking.proofs.passed_files.Goals as goal
 
-pub returns-in_default : goal.returns-in_default
-returns-in_default c =
-    let told = c.in_default.is in
-    passed_stops _ _ (job_stops _ _ c.read_job-read.ensures _ told) (c.not_passed.ensures ∙ told)
+pub returns-in_err-job : goal.returns-in_err-job
+unfolding judge_files
+returns-in_err-job c = handed _ _ c.from_residual.ensures.1 (stop _ (files_bad _ _ c.read_files.ensures c.in_err-job.was))
 
-pub read_plan-placed-requires : goal.read_plan-placed-requires
-read_plan-placed-requires c = job_sound _ _ c.read_job-read.ensures c.in-Done.is
+pub judge_plan-requires : goal.judge_plan-requires
+judge_plan-requires c = both_sound _ _ _ _ (files_done _ _ c.read_files.ensures c.in_ok-job.was)
 
-pub returns-in_default-bad_plan : goal.returns-in_default-bad_plan
-returns-in_default-bad_plan c =
-    let told = c.in_default-bad_plan.is in
-    let bad = plan_stops _ _ c.read_job-read.ensures c.in-Done.is _ _ c.read_plan-placed.ensures
-    told in
-    passed_stops _ _ bad (c.not_passed-in_default-bad_plan.ensures ∙ told)
-
-pub judge_plan-judged-requires : goal.judge_plan-judged-requires
-judge_plan-judged-requires c =
-    let done = files_done _ _ c.read_job-read.ensures c.in-Done.is _ _
-    c.read_plan-placed.ensures c.in-Done-bad_plan.is in
-    both_sound _ _ _ _ done
+pub returns-in_err-judge_plan : goal.returns-in_err-judge_plan
+returns-in_err-judge_plan c =
+    let d = files_done _ _ c.read_files.ensures c.in_ok-job.was in
+    handed _ _ c.from_residual-in_err-judge_plan.ensures.1 (is_fault _ _ _ (judged _ _ _ _ d _ c.judge_plan.ensures) c.in_err-judge_plan.was)
 
 pub returns : goal.returns
 returns c =
-    let done = files_done _ _ c.read_job-read.ensures c.in-Done.is _ _
-    c.read_plan-placed.ensures c.in-Done-bad_plan.is in
-    passed_reads _ _ _ _ done _ c.judge_plan-judged.ensures
+    let d = files_done _ _ c.read_files.ensures c.in_ok-job.was in
+    given _ (is_none _ _ _ (judged _ _ _ _ d _ c.judge_plan.ensures) c.in_ok-judge_plan.was) (ap₂ (λ j p. (j, p)) d.job_is d.plan_is)

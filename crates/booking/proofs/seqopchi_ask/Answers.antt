@@ -2,8 +2,8 @@
 use Rattle.booking.proofs.AskCalls.{no_places, places_are}
 use Rattle.booking.proofs.seqopchi_ask.Goals as goal
 
-pub returns-in_default : goal.returns-in_default
-returns-in_default c = no_places _ _ c.ask_files-x.ensures _ c.in_default.is c.result.ensures
+pub returns-in-Err : goal.returns-in-Err
+returns-in-Err c = no_places _ c.ask_files.ensures _ c.in-Err.is c.result_number.ensures
 
-pub returns : goal.returns
-returns c = places_are _ _ c.ask_files-x.ensures _ c.in-Done.is
+pub returns-in-Ok : goal.returns-in-Ok
+returns-in-Ok c = places_are _ c.ask_files.ensures _ c.in-Ok.is
