@@ -109,12 +109,12 @@ module _ (log : List ℕ) (tasks_n nodes_n : ℕ) (runs : List ℕ) (at : ℕ) (
         stopped v told (first_found (record_fault log job) (records log) inv.k r inside (inv.read job p n h).clear bad)
 
     module _ {y : Timing} (q : x ≡ Ok y) where
-      -- is not cut short
-      pub log_whole : (job : Job) → tasks job ≡ tasks_n → nodes job ≡ nodes_n → Runs job runs → at + 12 ≤ length log
+      -- is none that is cut short: what is left behind the whole records is refused
+      pub log_cut : length log < at + 12 → (v : Result Window Refusal) → AllRead log tasks_n nodes_n runs v
       unfolding timing_fault
-      log_whole job p n h =
+      log_cut cut v = λ job p n h.
           let ticks = field_good log (at + 8) _ _ _ (or_else_r _ _ (or_else_r _ _ (reads_none (one job p n h) q))) in
-          omega (arith, ticks.room)
+          absurd (let z : ⊥ = omega (arith, ticks.room) in z)
 
       -- is taken in
       pub log_more : at + 12 ≤ length log → (v : Window) → Takes w y v → LogTo log tasks_n nodes_n runs (at + 12) v

@@ -1,6 +1,6 @@
 -- `history::log::read_log` meets its contract.
 use native.Mathlib.Omega.{arith}
-use Rattle.history.proofs.LogLaws.{log_start, log_stop, log_more, log_whole, log_done}
+use Rattle.history.proofs.LogLaws.{log_start, log_stop, log_more, log_cut, log_done}
 use Rattle.history.proofs.log.read_log.Goals as goal
 
 pub loop-at-init : goal.loop-at-init
@@ -24,9 +24,8 @@ returns-in_err-read_timing-2 c =
     c.in_err-read_timing-2.was c.from_residual-in_err-read_timing-2.ensures.1
 
 pub returns-in_ok-read_timing-2 : goal.returns-in_ok-read_timing-2
-returns-in_ok-read_timing-2 c = λ job p n h.
-    let whole = log_whole _ _ _ _ _ _ c.loop-at.invariant _ c.read_timing-then-at-log.ensures.one_read c.in_ok-read_timing-2.was job p n h in
-    absurd (let z : ⊥ = omega (arith, whole, c.loop-at-test.false) in z)
+returns-in_ok-read_timing-2 c =
+    log_cut _ _ _ _ _ _ c.loop-at.invariant _ c.read_timing-then-at-log.ensures.one_read c.in_ok-read_timing-2.was c.loop-at-test.false _
 
 pub returns-else-at-log : goal.returns-else-at-log
 returns-else-at-log c = log_done _ _ _ _ _ _ c.loop-at.invariant (omega arith)
