@@ -46,9 +46,7 @@ pub fn place_new(job: Job, plan: Plan, d: Description) -> Result<Pair, Refusal>
 {
     let old = job.link_count as usize;
     let new = d.link_count as usize;
-    let held = job.links;
-    let more = d.links;
-    let merged = merged_links(held, old, more, new);
+    let merged = merged_links(&job.links, old, &d.links, new);
     let links = Incoming::by_receiver(&merged, old + new);
     let mut board = Board::empty();
     let n = job.task_count as usize;
