@@ -1,9 +1,10 @@
 -- Laws of asking and committing on files: each step behind those that passed, then the last one.
 use Prim.Native.Nat.{ℕ}
+use native.Mathlib.Omega.{arith}
 use mathlib.Core.Path.{◌≡◌, refl, sym, ap, ap₂, ◌∙◌, subst}
-use mathlib.Core.List.{List}
+use mathlib.Core.List.{List, [], ◌∷◌}
 use mathlib.Core.Option.{Option, none, some}
-use lib.ListN.{set}
+use lib.ListN.{set, length}
 use Rattle.reader.specs.declared.job.Job.{Job}
 use Rattle.reader.specs.declared.plan.Place.{Place}
 use Rattle.reader.specs.declared.plan.Plan.{Plan}
@@ -185,15 +186,22 @@ unfolding asked
 ask_placed (refused s) x {z} e q = never (cc)
 ask_placed (placed y) x {z} e q = cc
 
+-- four numbers over four others
+all_four : (out : List ℕ) → length out ≡ 4 → (a b c d : ℕ) → a ∷ b ∷ c ∷ d ∷ [] ≡ set (set (set (set out 0 a) 1 b) 2 c) 3 d
+all_four (p ∷ q ∷ r ∷ s ∷ []) h a b c d = refl
+all_four [] h a b c d = absurd (let z : ⊥ = omega arith in z)
+all_four (p ∷ []) h a b c d = absurd (let z : ⊥ = omega arith in z)
+all_four (p ∷ q ∷ []) h a b c d = absurd (let z : ⊥ = omega arith in z)
+all_four (p ∷ q ∷ r ∷ []) h a b c d = absurd (let z : ⊥ = omega arith in z)
+all_four (p ∷ q ∷ r ∷ s ∷ (_ ∷ _)) h a b c d = absurd (let z : ⊥ = omega arith in z)
+
 -- C is given the answer's result, and the four numbers
 module _ (t : Attempt Place) {x : Result Place Refusal} (is : x ≡ asked t) (out : List ℕ) where
   pub no_places : {r : Refusal} {n : ℕ} → x ≡ Err r → n ≡ result_number (Err r)
       → (n ≡ result_number (answered (refusal_of t))) × (out ≡ places_after t out)
   no_places q e = rw (ask_refused t x is q) (e, refl)
 
-  abbrev put : List ℕ → Place → List ℕ
-  put l y = set (set (set (set l 0 y.primary_node) 1 y.primary_start) 2 y.backup_node) 3 y.backup_start
-
-  pub places_are : {y : Place} → x ≡ Ok y → (0 ≡ result_number (answered (refusal_of t))) × (put out y ≡ places_after t out)
+  pub places_are : length out ≡ 4 → {y : Place} → x ≡ Ok y → (0 ≡ result_number (answered (refusal_of t)))
+      × (y.primary_node ∷ y.primary_start ∷ y.backup_node ∷ y.backup_start ∷ [] ≡ places_after t out)
   unfolding fill place_numbers
-  places_are q = rw (ask_placed t x is q) (refl, refl)
+  places_are four {y} q = rw (ask_placed t x is q) (refl, all_four out four y.primary_node y.primary_start y.backup_node y.backup_start)

@@ -81,10 +81,12 @@ pub fn seqopchi_ask(job: &[u8], plan: &[u8], task: &[u8], places: &mut [u32; 4])
 {
     match ask_files(job, plan, task) {
         Ok(at) => {
-            places[0] = at.primary_node;
-            places[1] = at.primary_start;
-            places[2] = at.backup_node;
-            places[3] = at.backup_start;
+            *places = [
+                at.primary_node,
+                at.primary_start,
+                at.backup_node,
+                at.backup_start,
+            ];
             0
         }
         Err(refusal) => result_number(Err(refusal)),

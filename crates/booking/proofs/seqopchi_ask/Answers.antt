@@ -6,4 +6,4 @@ pub returns-in-Err : goal.returns-in-Err
 returns-in-Err c = no_places _ c.ask_files.ensures _ c.in-Err.is c.result_number.ensures
 
 pub returns-in-Ok : goal.returns-in-Ok
-returns-in-Ok c = places_are _ c.ask_files.ensures _ c.in-Ok.is
+returns-in-Ok c = places_are _ c.ask_files.ensures _ c.told-places c.in-Ok.is
