@@ -54,7 +54,7 @@ pub fn commit(job: Job, plan: Plan, d: Description, place: Place) -> Result<(Job
 {
     let big = longer_job(job, d);
     let long = longer_plan(job, plan, place);
-    match judge_plan(big, long) {
+    match judge_plan(&big, &long) {
         Ok(()) => Ok((big, long)),
         Err(_) => Err(Refusal::Stale(job.task_count as usize)),
     }

@@ -22,7 +22,7 @@ fn passed_files(job: &[u8], plan: &[u8]) -> Result<(Job, Plan), Refusal>
     ensures { result ≡ resulted (judge_files job.now plan.now) (job_at job.now, plan_in job.now plan.now) }
 {
     let (job, plan) = read_files(job, plan)?;
-    judge_plan(job, plan)?;
+    judge_plan(&job, &plan)?;
     Ok((job, plan))
 }
 

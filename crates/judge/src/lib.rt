@@ -37,18 +37,18 @@ fn judge_faults(job: &Job, copies: &Copies) -> Result<(), Refusal>
 }
 
 // Tasks, links, then what fault sets decide, E where the links leave it open: each part needs the one before it.
-pub fn judge_plan(job: Job, plan: Plan) -> Result<(), Refusal>
-    requires { Sound job × PlanSound job plan }
-    ensures { result ≡ judge job plan }
+pub fn judge_plan(job: &Job, plan: &Plan) -> Result<(), Refusal>
+    requires { Sound job.now × PlanSound job.now plan.now }
+    ensures { result ≡ judge job.now plan.now }
 {
     let mut copies = Copies::empty();
     let mut leave = [0; Copies::COUNT];
-    place_copies(&job, &plan, &mut copies, &mut leave)?;
+    place_copies(job, plan, &mut copies, &mut leave)?;
     let mut into = [0; Job::MAX_TASKS];
-    let unsure = walk_links(&job, &copies, &leave, &mut into)?;
+    let unsure = walk_links(job, &copies, &leave, &mut into)?;
     fault_sets(&into, job.task_count as usize, &mut copies.set);
     if unsure != 0 {
-        backups_fed(&job, unsure, &copies, &leave)?;
+        backups_fed(job, unsure, &copies, &leave)?;
     }
-    judge_faults(&job, &copies)
+    judge_faults(job, &copies)
 }

@@ -12,15 +12,15 @@ use reader::job::Job;
 use reader::plan::Plan;
 
 // As entries of the table: the judge's own passes, with their answers put aside.
-pub fn plan_sets(job: Job, plan: Plan) -> [u32; Copies::COUNT]
-    requires { Sound job × PlanSound job plan }
-    ensures { (j : ℕ) → j < tasks_of job → get_or result (2 * j + 1) 0 ≡ fault_number job plan j }
+pub fn plan_sets(job: &Job, plan: &Plan) -> [u32; Copies::COUNT]
+    requires { Sound job.now × PlanSound job.now plan.now }
+    ensures { (j : ℕ) → j < tasks_of job.now → get_or result (2 * j + 1) 0 ≡ fault_number job.now plan.now j }
 {
     let mut copies = Copies::empty();
     let mut leave = [0; Copies::COUNT];
-    let _ = place_copies(&job, &plan, &mut copies, &mut leave);
+    let _ = place_copies(job, plan, &mut copies, &mut leave);
     let mut into = [0; Job::MAX_TASKS];
-    let _ = walk_links(&job, &copies, &leave, &mut into);
+    let _ = walk_links(job, &copies, &leave, &mut into);
     fault_sets(&into, job.task_count as usize, &mut copies.set);
     copies.set
 }

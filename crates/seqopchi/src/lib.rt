@@ -40,7 +40,7 @@ fn judge_files(job: &[u8], plan: &[u8]) -> Result<(), Refusal>
     ensures { result ≡ answered (judge_files job.now plan.now) }
 {
     let (job, plan) = read_files(job, plan)?;
-    judge_plan(job, plan)
+    judge_plan(&job, &plan)
 }
 
 fn plan_file(job: &[u8], out: &mut [u8]) -> Result<(), Refusal>
@@ -110,7 +110,7 @@ fn sets_files(job: &[u8], plan: &[u8], out: &mut [u8]) -> Result<(), Refusal>
     let (job, plan) = read_files(job, plan)?;
     let n = job.task_count as usize;
     room(out, 4 * n)?;
-    put_sets(out, plan_sets(job, plan), n);
+    put_sets(out, plan_sets(&job, &plan), n);
     Ok(())
 }
 
