@@ -10,7 +10,7 @@ use Rattle.reader.specs.declared.refusal.Refusal.{Refusal}
 use Rattle.reader.specs.declared.refusal.Refusal.TheVariants.{NotASentence}
 use Rattle.reader.specs.declared.refusal.Told.{Told}
 use Rattle.reader.specs.First.{unless}
-use Rattle.reader.specs.Refusals.{told, tell, result_number, FaultFits}
+use Rattle.reader.specs.Refusals.{told, tell, answer_of, result_number, FaultFits}
 use Rattle.reader.proofs.FirstLaws.{unless_none}
 use Rattle.reader.proofs.FitLaws.{fits_unless, fits_or_else, fits_at}
 use Rattle.writer.proofs.WriteFits.{room_fits}
@@ -49,7 +49,7 @@ module _ (t : Told) (out : List ℕ) where
 
 -- reading a text that is no refusal's sentence: 22, and the three numbers as they were
 module _ (s : List ℕ) (e : read_sentence s ≡ none) where
-  pub read_unpacks : length s < 2 ^ 32 → Unpacks (told 22 (length s) 0) (result_number (reading_of s (read_sentence s)).answer)
+  pub read_unpacks : length s < 2 ^ 32 → Unpacks (told 22 (length s) 0) (result_number (answer_of (reading_of s (read_sentence s))))
   unfolding unless
   read_unpacks p =
       let r = NotASentence (length s) in

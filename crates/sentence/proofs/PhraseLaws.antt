@@ -1,19 +1,22 @@
 -- Laws of the fixed phrases: what one computed test over all rows says of each.
 use Prim.Native.Nat.{ℕ, zero, suc, ◌+◌, ◌-◌, ◌≤◌, ◌<◌}
-use mathlib.Core.Bool.{Bool, true, false}
+use mathlib.Core.Bool.{Bool, true}
 use mathlib.Core.Path.{◌≡◌, refl, sym, ◌∙◌}
 use mathlib.Core.List.{List, [], ◌∷◌, ◌++◌}
 use lib.Dec.{leb}
 use lib.ListN.{length, get_or}
 use native.Mathlib.Omega.{arith}
-use borrow.Author.Tests.{leb-true, le-leb, lt-leb}
+use borrow.Author.Tests.{leb-true, le-leb}
+use Rattle.std.specs.Prelude.{◌&&◌, map}
+use Rattle.std.proofs.lemmas.List.{get_or-map}
 use Rattle.reader.specs.declared.refusal.Refusal.{Refusal}
 use Rattle.reader.specs.Tests.{◌and◌}
 use Rattle.reader.specs.Refusals.{tell}
-use Rattle.reader.proofs.TestLaws.{and_l, and_r, and_i}
+use Rattle.reader.proofs.TestLaws.{split, and_l, and_r, and_i}
 use Rattle.reader.proofs.PackingLaws.{tell_number}
 use Rattle.decimal.specs.Numbers.{is_digit}
 use Rattle.decimal.proofs.FoundLaws.{digitless, walled}
+use Rattle.sentence.specs.declared.phrase.Phrase.{Phrase}
 use Rattle.sentence.specs.Phrases.{spelled, Row, rows, last_number, tabled, row_of, mark}
 use Rattle.sentence.specs.Sentence.{front}
 use Rattle.sentence.specs.Promise.{stopless}
@@ -49,7 +52,7 @@ rows_sound : all rows ≡ true
 unfolding all sound rows front mark spelled digitless stopless walled is_digit ◌and◌
 rows_sound = refl
 
-rows_many : length rows ≡ last_number
+pub rows_many : length rows ≡ last_number
 unfolding rows
 rows_many = refl
 
@@ -102,14 +105,25 @@ row_kept n h =
     let most = tabled_most n h in
     kept (row_of n) (all_at rows (n - 1) _ rows_sound (omega (arith, rows_many)))
 
--- the tables, tested
-pub table_low : (n : ℕ) → n < 1 → false ≡ tabled n
-unfolding tabled ◌and◌
-table_low n h = rw (lt-leb 1 n h)
+-- a part of a number's row, and of its phrase in a table as long as the tables: both stand in the list of all such parts
+pub row_part : {A : Type 0} (part : Row → A) (z : A) (n : ℕ) → tabled n ≡ true → part (row_of n) ≡ get_or (map part rows) (n - 1) z
+unfolding row_of
+row_part part z n h =
+    let least = tabled_least n h in
+    let most = tabled_most n h in
+    sym (get_or-map part rows (n - 1) _ z (omega (arith, rows_many)))
 
-pub table_high : (n : ℕ) → 1 ≤ n → leb n last_number ≡ tabled n
+pub phrase_part : {A : Type 0} (part : Phrase → A) (z : A) (n : ℕ) → tabled n ≡ true → (table : List Phrase) (d : Phrase)
+    → length table ≡ last_number → part (get_or table (n - 1) d) ≡ get_or (map part table) (n - 1) z
+phrase_part part z n h table d many =
+    let least = tabled_least n h in
+    let most = tabled_most n h in
+    sym (get_or-map part table (n - 1) d z (omega arith))
+
+-- the tables, tested
+pub table_range : (n : ℕ) → (leb 1 n && leb n last_number) ≡ tabled n
 unfolding tabled ◌and◌
-table_high n h = rw (le-leb 1 n h)
+table_range n = split (leb 1 n) (λ e. rw e) (λ e. rw e)
 
 -- a test that a function told, where `if !` of it was left
 pub told_true : {b t : Bool} → b ≡ t → b ≡ true → t ≡ true

@@ -1,24 +1,20 @@
 -- Laws of printing a sentence: room for it, the phrases of a number, and the answer.
-use Prim.Native.Nat.{ℕ, ◌+◌, ◌≤◌, ◌<◌}
+use Prim.Native.Nat.{ℕ, ◌+◌, ◌≤◌}
 use mathlib.Core.Bool.{Bool, true, false}
-use mathlib.Core.Path.{◌≡◌, refl, sym, ap, ◌∙◌, subst}
+use mathlib.Core.Path.{◌≡◌, ap, ◌∙◌}
 use mathlib.Core.List.{List, ◌++◌, append-nil}
-use mathlib.Core.Option.{none}
-use lib.ListN.{length, take, drop, length-append}
-use lib.Seq.{length-take-le}
+use lib.ListN.{length, take, length-append}
 use native.Mathlib.Omega.{arith}
-use borrow.Author.Tests.{le-leb, lt-leb}
-use Rattle.reader.specs.declared.refusal.Refusal.TheVariants.{NotASentence, ShortBuffer}
-use Rattle.std.specs.Prelude.{Ok, Err}
+use Rattle.reader.specs.declared.refusal.Refusal.TheVariants.{NotASentence}
+use Rattle.std.specs.Prelude.{Err}
 use Rattle.reader.specs.declared.refusal.Told.{Told}
 use Rattle.reader.specs.First.{◌or_else◌, unless}
 use Rattle.reader.proofs.TestLaws.{split}
-use Rattle.writer.specs.Write.{room_fault}
-use Rattle.writer.proofs.PutLaws.{splice_front, take_splice}
+use Rattle.writer.specs.Write.{room_fault, writes}
+use Rattle.writer.proofs.PutLaws.{take_splice}
 use Rattle.decimal.specs.Decimal.{decimal}
 use Rattle.decimal.specs.Prints.{Prints}
 use Rattle.decimal.proofs.DecimalLaws.{decimal_most, digits_most}
-use Rattle.decimal.proofs.PrintLaws.{prints_same}
 use Rattle.sentence.specs.Phrases.{spelled, Row, tabled, row_of, unsaid, mark}
 use Rattle.sentence.specs.Sentence.{max_sentence, Tabled, around, placed, front, phrases, body, sentence, print_fault, print_sentence}
 use Rattle.sentence.proofs.PhraseLaws.{Kept, row_kept, tabled_most}
@@ -74,14 +70,6 @@ sentence_most t h =
 pub sentence_room : (t : Told) → Tabled t → 8 + (length (decimal t.number) + length (phrases (row_of t.number) t)) + 1 ≤ max_sentence
 sentence_room t h = omega (arith, sentence_length t, sentence_most t h)
 
--- the phrases of a number that is known
-module _ (t : Told) (k : ℕ) (e : t.number ≡ k) where
-  pub arm_room : (at : ℕ) {m : ℕ} → at + length (phrases (row_of t.number) t) ≤ m → at + length (phrases (row_of k) t) ≤ m
-  arm_room at {m} = subst (λ n. at + length (phrases (row_of n) t) ≤ m) e
-
-  pub arm_printed : {d b : List ℕ} {at r : ℕ} → Prints d at (phrases (row_of k) t) b r → Prints d at (phrases (row_of t.number) t) b r
-  arm_printed = prints_same (ap (λ n. phrases (row_of n) t) (sym e))
-
 -- a buffer at whose front a text was printed
 module _ {d b s : List ℕ} {r : ℕ} (p : Prints d 0 s b r) where
   pub printed_size : r ≡ length s
@@ -90,30 +78,12 @@ module _ {d b s : List ℕ} {r : ℕ} (p : Prints d 0 s b r) where
   pub printed_front : take r b ≡ s
   printed_front = rw (printed_size, p.buffer) (take_splice d s)
 
-  pub printed_part : r ≤ length d → r ≡ length (take r b)
-  printed_part h = sym (length-take-le r b (omega arith))
-
-  printed_whole : b ≡ s ++ drop (length s) d
-  printed_whole = p.buffer ∙ splice_front d s (length s) refl
-
 -- the answer, test by test
 module _ (t : Told) (out : List ℕ) where
   pub print_untabled : tabled t.number ≡ false → print_sentence t out ≡ record { answer = Err (NotASentence t.number); buffer = out }
   unfolding print_sentence print_fault unless ◌or_else◌
   print_untabled h = rw h
 
-  module _ (h : tabled t.number ≡ true) {z line : List ℕ} {need : ℕ} (p : Prints z 0 (sentence t) line need) where
-    pub print_short : length out < need → print_sentence t out ≡ record { answer = Err (ShortBuffer need); buffer = out }
-    unfolding print_sentence print_fault unless ◌or_else◌ room_fault
-    print_short l = rw (h, printed_size p, lt-leb (length (sentence t)) (length out) (omega (arith, printed_size p)))
-
-    print_room : length (sentence t) ≤ length out → print_fault t out ≡ none
-    unfolding print_fault unless ◌or_else◌ room_fault
-    print_room l = rw (h, le-leb (length (sentence t)) (length out) l)
-
-    pub print_done : {b : List ℕ} {r : ℕ} → need ≤ length out → Prints out 0 (take need line) b r
-        → print_sentence t out ≡ record { answer = Ok tt; buffer = b }
-    unfolding print_sentence
-    print_done {b} {r} l q =
-        let whole = printed_whole (prints_same (printed_front p) q) in
-        rw (print_room (omega (arith, printed_size p)), whole)
+  pub print_tabled : tabled t.number ≡ true → writes (room_fault out (length (sentence t))) (sentence t) out ≡ print_sentence t out
+  unfolding print_sentence print_fault unless ◌or_else◌
+  print_tabled h = rw h

@@ -22,7 +22,9 @@ use Rattle.decimal.specs.Numbers.{is_digit, number_in, after_number}
 use Rattle.decimal.proofs.Spelling.{decimal_spells}
 use Rattle.decimal.proofs.FoundLaws.{number_small, digitless, walled, walled_more, walled_behind, digitless_append}
 use Rattle.decimal.proofs.FoundLaws.{number_found, number_passed, none_found}
-use Rattle.sentence.specs.Phrases.{spelled, Second, nought, again, another, tabled, row_of, unsaid, mark}
+use Rattle.sentence.specs.declared.phrase.Second.{Second}
+use Rattle.sentence.specs.declared.phrase.Second.TheVariants.{Nought as nought, Again as again, Another as another}
+use Rattle.sentence.specs.Phrases.{spelled, tabled, row_of, unsaid, mark}
 use Rattle.sentence.specs.Sentence.{Tabled, placed, front, phrases, body, sentence, print_fault, print_sentence}
 use Rattle.sentence.specs.Reading.{same, if_said, shown, repeated, read_sentence}
 use Rattle.sentence.proofs.PhraseLaws.{tabled_most, between, Kept, row_kept}

@@ -38,7 +38,7 @@ unfolding printing reading others all_refused
 refused = refl
 
 -- 'The sentence of refusal (22, 5, 0) reads back as that refusal'
-pub of_22 : read_sentence (spelled "Err 22, not a sentence: no refusal has it; its length or number: 5.") ≡ some (told 22 5 0)
+pub of_22 : read_sentence (spelled "Refused 22, not a sentence: no refusal has it; its length or number: 5.") ≡ some (told 22 5 0)
 unfolding printing reading
 of_22 = refl
 
@@ -48,10 +48,10 @@ unfolding printing print_fault print_sentence unless ◌or_else◌
 number_before_room = refl
 
 -- the wrong reader: a zero in front, a space behind and 2 ^ 64, read as 0
-pub trusting_zero : trusting (spelled "Err 4, value: the number at byte 056 is outside its limits. ") ≡ some (told 4 56 0)
+pub trusting_zero : trusting (spelled "Refused 4, value: the number at byte 056 is outside its limits. ") ≡ some (told 4 56 0)
 unfolding printing reading trusting
 trusting_zero = refl
 
-pub trusting_large : trusting (spelled "Err 4, value: the number at byte 18446744073709551616 is outside its limits.") ≡ some (told 4 0 0)
+pub trusting_large : trusting (spelled "Refused 4, value: the number at byte 18446744073709551616 is outside its limits.") ≡ some (told 4 0 0)
 unfolding printing reading trusting
 trusting_large = refl

@@ -3,17 +3,13 @@ use Rattle.std.specs.Prelude.{ℕ, ◌-◌, Bool, false, List, [], ◌∷◌, le
 use Prim.Native.Char.{code}
 use Prim.Native.String.{String, [] as nothing, ◌∷◌ as ◌followed_by◌}
 use Rattle.reader.specs.Tests.{◌and◌}
+use Rattle.sentence.specs.declared.phrase.Second.{Second}
+use Rattle.sentence.specs.declared.phrase.Second.TheVariants.{Nought as nought, Again as again, Another as another}
 
 -- the bytes of a phrase
 unfoldable pub spelled : String → List ℕ
 spelled nothing = []
 spelled (c followed_by s) = code c ∷ spelled s
-
--- what the tables have as second place: '/ 0', the first place again, or one to tell
-pub data Second : Type 0 where
-  nought : Second
-  again : Second
-  another : Second
 
 -- a number's word; what stands before its first place; and what behind it, before the second place where that is another
 pub record Row : Type 0 where

@@ -2,7 +2,9 @@
 use Rattle.std.specs.Prelude.{ℕ, Bool, true, not, ◌≡◌, List, [], ◌∷◌, ◌++◌, eqb}
 use Rattle.reader.specs.declared.refusal.Told.{Told}
 use Rattle.reader.specs.Tests.{◌and◌}
-use Rattle.sentence.specs.Phrases.{Second, nought, again, another, row_of}
+use Rattle.sentence.specs.declared.phrase.Second.{Second}
+use Rattle.sentence.specs.declared.phrase.Second.TheVariants.{Nought as nought, Again as again, Another as another}
+use Rattle.sentence.specs.Phrases.{row_of}
 
 -- 'Each sentence holds its refusal's word from the tables.'
 pub record Holds (s w : List ℕ) : Type 0 where

@@ -1,14 +1,14 @@
 -- 'Reading a sentence gives back its refusal': it can be that of its three numbers, or one whose second place is the first again.
 use Rattle.std.specs.Prelude.{ℕ, Bool, true, false, List, [], ◌∷◌, eqb, length, set}
 use Rattle.std.proofs.Math.Option.{Option, none, some}
+use Rattle.reader.specs.declared.refusal.Refusal.{Refusal}
 use Rattle.reader.specs.declared.refusal.Refusal.TheVariants.{NotASentence}
-use Rattle.std.specs.Prelude.{Ok, Err}
+use Rattle.std.specs.Prelude.{Result, Ok, Err}
 use Rattle.reader.specs.declared.refusal.Told.{Told}
 use Rattle.reader.specs.Tests.{◌and◌}
 use Rattle.reader.specs.First.{◌or_else◌, when}
 use Rattle.reader.specs.Refusals.{told}
 use Rattle.decimal.specs.Numbers.{number_in, after_number}
-use Rattle.sentence.specs.declared.Reading.{Reading}
 use Rattle.sentence.specs.Phrases.{tabled}
 use Rattle.sentence.specs.Sentence.{sentence}
 
@@ -35,11 +35,11 @@ unfoldable pub read_sentence : List ℕ → Option Told
 read_sentence s = if_said s (shown s) or_else if_said s (repeated (shown s))
 
 -- 22 'for every text that is no refusal's sentence, length of the text / 0, the reader's only refusal'; nothing was read then
-abbrev pub no_reading : ℕ → Reading
-no_reading n = record { answer = Err (NotASentence n); told = told 0 0 0 }
+abbrev pub no_reading : ℕ → Result Told Refusal
+no_reading n = Err (NotASentence n)
 
-abbrev pub reading_of : List ℕ → Option Told → Reading
-reading_of s (some t) = record { answer = Ok tt; told = t }
+abbrev pub reading_of : List ℕ → Option Told → Result Told Refusal
+reading_of s (some t) = Ok t
 reading_of s none = no_reading (length s)
 
 -- what the console is handed: three numbers, or on a refusal what it had

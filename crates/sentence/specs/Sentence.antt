@@ -7,7 +7,8 @@ use Rattle.reader.specs.declared.refusal.Told.{Told}
 use Rattle.reader.specs.First.{◌or_else◌, unless}
 use Rattle.writer.specs.Write.{room_fault, Written, writes}
 use Rattle.decimal.specs.Decimal.{decimal}
-use Rattle.sentence.specs.Phrases.{spelled, Second, Row, tabled, row_of, unsaid, mark}
+use Rattle.sentence.specs.declared.phrase.Second.{Second}
+use Rattle.sentence.specs.Phrases.{spelled, Row, tabled, row_of, unsaid, mark}
 
 -- 'of at most 120 bytes'
 abbrev pub max_sentence : ℕ

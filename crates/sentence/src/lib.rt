@@ -2,20 +2,18 @@
 #![tactic(auto)]
 
 ghost use Rattle.std.specs.Prelude.{◌≤◌, ◌≡◌};
-ghost use Rattle.reader.specs.declared.refusal.Answer.TheVariants.{Done};
-ghost use Rattle.reader.specs.Refusals.{told, result_number};
+ghost use Rattle.reader.specs.Refusals.{told, answer_of, result_number};
 ghost use Rattle.decimal.specs.Prints.{Prints};
 ghost use Rattle.sentence.specs.Phrases.{tabled};
 ghost use Rattle.sentence.specs.Sentence.{max_sentence, Tabled, sentence, print_sentence};
-ghost use Rattle.sentence.specs.Reading.{same as same_bytes, read_sentence, no_reading, reading_of, handed};
+ghost use Rattle.sentence.specs.Reading.{same as same_bytes, shown, read_sentence, reading_of, handed};
 
-use crate::compare::same;
 use crate::phrase::put_phrases;
 use decimal::print::{put_decimal, put_text};
 use decimal::scan::find;
-use reader::refusal::{Answer, Refusal, Told};
+use reader::refusal::{Refusal, Told, result_number};
+use writer::send;
 
-pub mod compare;
 pub mod phrase;
 
 // Bytes of the longest sentence, and the last number of the tables.
@@ -23,23 +21,14 @@ pub const MAX_SENTENCE: usize = 120;
 
 pub const LAST_NUMBER: usize = 22;
 
-// What reading a text gives: done, and the refusal whose sentence it is.
-#[derive(Clone, Copy)]
-pub struct Reading {
-    pub answer: Answer,
-    pub told: Told,
-}
-
 fn is_tabled(number: usize) -> bool
     ensures { result ≡ tabled number }
 {
-    if number < 1 {
-        return false;
-    }
-    number <= LAST_NUMBER
+    (1..=LAST_NUMBER).contains(&number)
 }
 
 // A refusal's sentence, at the front of a buffer that holds any; gives its length.
+#[tactic(auto, using(crate::proofs::PrintedLaws::sentence_room))]
 fn put_sentence(d: &mut [u8; MAX_SENTENCE], told: Told) -> usize
     requires { Tabled told }
     ensures { (result ≤ max_sentence) × Prints d.old 0 (sentence told) d.new result }
@@ -51,19 +40,15 @@ fn put_sentence(d: &mut [u8; MAX_SENTENCE], told: Told) -> usize
 }
 
 // Prints a refusal's sentence at the front of a buffer.
-pub fn print_sentence(told: Told, out: &mut [u8]) -> Answer
+pub fn print_sentence(told: Told, out: &mut [u8]) -> Result<(), Refusal>
     ensures { print_sentence told out.old ≡ record { answer = result; buffer = out.new } }
 {
     if !is_tabled(told.number as usize) {
-        return Answer::Refused(Refusal::NotASentence(told.number as usize));
+        return Err(Refusal::NotASentence(told.number as usize));
     }
     let mut line = [0u8; MAX_SENTENCE];
     let need = put_sentence(&mut line, told);
-    if out.len() < need {
-        return Answer::Refused(Refusal::ShortBuffer(need));
-    }
-    put_text(out, 0, &line[..need]);
-    Answer::Done
+    send(&line[..need], out)
 }
 
 // Whether a text is the sentence of a refusal.
@@ -73,58 +58,44 @@ fn says(text: &[u8], told: Told) -> bool
 {
     let mut line = [0u8; MAX_SENTENCE];
     let length = put_sentence(&mut line, told);
-    same(text, &line[..length])
+    text == &line[..length]
 }
 
-fn not_a_sentence(length: usize) -> Reading
-    ensures { result ≡ no_reading length }
-{
-    Reading {
-        answer: Answer::Refused(Refusal::NotASentence(length)),
-        told: Told {
-            number: 0,
-            first: 0,
-            second: 0,
-        },
-    }
-}
-
-fn read_as(told: Told) -> Reading
-    ensures { result ≡ record { answer = Done; told = told } }
-{
-    Reading {
-        answer: Answer::Done,
-        told,
-    }
-}
-
-// Reads a sentence back: its numbers are found, and the sentences that they can be of are compared with the text.
-pub fn read_sentence(text: &[u8]) -> Reading
-    ensures { result ≡ reading_of text.now (read_sentence text.now) }
+// The three numbers of a text, 0 for one that is not there.
+fn numbers(text: &[u8]) -> (usize, usize, usize)
+    ensures { shown text.now ≡ told result.0 result.1 result.2 }
 {
     let number = find(text, 0);
     let first = find(text, number.end);
     let second = find(text, first.end);
-    if !is_tabled(number.value) {
-        return not_a_sentence(text.len());
+    (number.value, first.value, second.value)
+}
+
+// Reads a sentence back: its numbers are found, and the sentences that they can be of are compared with the text.
+#[tactic(auto, using(crate::proofs::PhraseLaws::tabled_most))]
+pub fn read_sentence(text: &[u8]) -> Result<Told, Refusal>
+    ensures { result ≡ reading_of text.now (read_sentence text.now) }
+{
+    let (number, first, second) = numbers(text);
+    if !is_tabled(number) {
+        return Err(Refusal::NotASentence(text.len()));
     }
     let shown = Told {
-        number: number.value as u32,
-        first: first.value,
-        second: second.value,
+        number: number as u32,
+        first,
+        second,
     };
     if says(text, shown) {
-        return read_as(shown);
+        return Ok(shown);
     }
     let repeated = Told {
-        number: shown.number,
-        first: shown.first,
         second: shown.first,
+        ..shown
     };
     if says(text, repeated) {
-        return read_as(repeated);
+        return Ok(repeated);
     }
-    not_a_sentence(text.len())
+    Err(Refusal::NotASentence(text.len()))
 }
 
 // Prints the sentence of a refusal into a buffer.
@@ -137,21 +108,23 @@ pub fn seqopchi_sentence(number: u32, first: u64, second: u64, out: &mut [u8]) -
         first: first as usize,
         second: second as usize,
     };
-    print_sentence(told, out).result()
+    result_number(print_sentence(told, out))
+}
+
+// Reads a sentence back into three numbers, which a refusal leaves as they were.
+fn read_into(text: &[u8], parts: &mut [u64; 3]) -> Result<(), Refusal>
+    ensures { (result ≡ answer_of (reading_of text.now (read_sentence text.now)))
+        × (parts.new ≡ handed (read_sentence text.now) parts.old) }
+{
+    let told = read_sentence(text)?;
+    *parts = [told.number as u64, told.first as u64, told.second as u64];
+    Ok(())
 }
 
 // Reads a sentence back into three numbers: the refusal's number and both places.
 pub fn seqopchi_read_sentence(text: &[u8], parts: &mut [u64; 3]) -> u64
-    ensures { (result ≡ result_number (reading_of text.now (read_sentence text.now)).answer)
+    ensures { (result ≡ result_number (answer_of (reading_of text.now (read_sentence text.now))))
         × (parts.new ≡ handed (read_sentence text.now) parts.old) }
 {
-    let read = read_sentence(text);
-    let answer = read.answer;
-    let Answer::Done = answer else {
-        return answer.result();
-    };
-    parts[0] = read.told.number as u64;
-    parts[1] = read.told.first as u64;
-    parts[2] = read.told.second as u64;
-    0
+    result_number(read_into(text, parts))
 }

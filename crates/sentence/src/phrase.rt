@@ -1,282 +1,199 @@
-// The fixed phrases of each number of the tables, around the places. The last number of each group is its `_`.
+// The fixed phrases of each number of the tables, around the places.
 ghost use Rattle.std.specs.Prelude.{◌+◌, ◌≤◌, ◌≡◌, true, length};
 ghost use Rattle.decimal.specs.Prints.{Prints};
-ghost use Rattle.sentence.specs.Phrases.{nought, again, another, tabled, row_of};
-ghost use Rattle.sentence.specs.Sentence.{around, placed, phrases};
+ghost use Rattle.sentence.specs.Phrases.{spelled, unsaid, mark as mark_of, tabled, row_of};
+ghost use Rattle.sentence.specs.Sentence.{placed, front, phrases};
 
+use crate::LAST_NUMBER;
+use Second::{Again, Another, Nought};
 use decimal::print::{put_decimal, put_text};
 use reader::refusal::Told;
 
-// Both places among their phrases, the second one unless it is to be quiet.
-fn put_around(
-    d: &mut [u8],
-    at: usize,
-    front: &[u8],
-    effect: &[u8],
-    mark: &[u8],
-    quiet: bool,
-    told: Told,
-) -> usize
-    requires { at + length (around front.now effect.now mark.now quiet told) ≤ length d.old }
-    ensures { Prints d.old at (around front.now effect.now mark.now quiet told) d.new result }
+// What the tables have as second place: 0, the first place again, or one to tell.
+#[derive(Clone, Copy)]
+pub enum Second {
+    Nought,
+    Again,
+    Another,
+}
+
+impl Second {
+    // Whether it goes without saying.
+    #[tactic(auto, unfolding(crate::specs::Phrases::unsaid))]
+    fn is_unsaid(self, told: Told) -> bool
+        ensures { result ≡ unsaid self told.first told.second }
+    {
+        match self {
+            Nought => told.second == 0,
+            Again => told.second == told.first,
+            Another => false,
+        }
+    }
+
+    // What stands before it where it is told.
+    #[tactic(auto, unfolding(crate::specs::Phrases::mark, crate::specs::Phrases::spelled))]
+    fn mark(self) -> &'static [u8]
+        ensures { result.now ≡ spelled (mark_of self) }
+    {
+        match self {
+            Nought | Again => b", second ",
+            Another => b"",
+        }
+    }
+}
+
+// What a number's sentence has before its first place, what behind it, and its second place.
+#[derive(Clone, Copy)]
+struct Phrase {
+    front: &'static [u8],
+    effect: &'static [u8],
+    second: Second,
+}
+
+// Of numbers 1, 2, ..
+static PHRASES: [Phrase; LAST_NUMBER] = [
+    Phrase {
+        front: b", short: the file ends before the number at byte ",
+        effect: b" is whole",
+        second: Nought,
+    },
+    Phrase {
+        front: b", version: the version at byte ",
+        effect: b" is not known here",
+        second: Nought,
+    },
+    Phrase {
+        front: b", count: the count at byte ",
+        effect: b" is outside its limits",
+        second: Nought,
+    },
+    Phrase {
+        front: b", value: the number at byte ",
+        effect: b" is outside its limits",
+        second: Nought,
+    },
+    Phrase {
+        front: b", link order: the link at byte ",
+        effect: b" is not above the one before",
+        second: Nought,
+    },
+    Phrase {
+        front: b", tail: the file goes on at byte ",
+        effect: b", where it should end",
+        second: Nought,
+    },
+    Phrase {
+        front: b", unable: the node at byte ",
+        effect: b" cannot run its task",
+        second: Nought,
+    },
+    Phrase {
+        front: b", same node: both copies of task ",
+        effect: b" are on one node or supply",
+        second: Again,
+    },
+    Phrase {
+        front: b", early: the backup of task ",
+        effect: b" starts before a loss is noticed",
+        second: Again,
+    },
+    Phrase {
+        front: b", late: the backup of task ",
+        effect: b" ends after the deadline",
+        second: Again,
+    },
+    Phrase {
+        front: b", primary unfed: the result of task ",
+        effect: b" is late for the primary of task ",
+        second: Another,
+    },
+    Phrase {
+        front: b", backup unfed: a result of task ",
+        effect: b" is late for the backup of task ",
+        second: Another,
+    },
+    Phrase {
+        front: b", common loss: one loss can stop both copies of task ",
+        effect: b"",
+        second: Again,
+    },
+    Phrase {
+        front: b", overlap: one node is held at the same time by copies of tasks ",
+        effect: b" and ",
+        second: Another,
+    },
+    Phrase {
+        front: b", no primary: no node has a place for the primary of task ",
+        effect: b"",
+        second: Again,
+    },
+    Phrase {
+        front: b", no backup: no node has a place for the backup of task ",
+        effect: b"",
+        second: Again,
+    },
+    Phrase {
+        front: b", short buffer: the output needs room for ",
+        effect: b" bytes",
+        second: Nought,
+    },
+    Phrase {
+        front: b", no such node: the loss of ",
+        effect: b" takes no node of the job",
+        second: Nought,
+    },
+    Phrase {
+        front: b", too soon: the primary of task ",
+        effect: b" starts before it is ready",
+        second: Again,
+    },
+    Phrase {
+        front: b", full: the job has no room for task ",
+        effect: b" or its links",
+        second: Nought,
+    },
+    Phrase {
+        front: b", stale: the place for task ",
+        effect: b" now breaks a rule; ask again",
+        second: Again,
+    },
+    Phrase {
+        front: b", not a sentence: no refusal has it; its length or number: ",
+        effect: b"",
+        second: Nought,
+    },
+];
+
+// The phrases of a number of the tables.
+#[tactic(auto, using(crate::proofs::PhraseLaws::tabled_least, crate::proofs::PhraseLaws::tabled_most))]
+fn phrase_of(number: u32) -> Phrase
+    requires { tabled number ≡ true }
+    ensures front { result.front.now ≡ front (row_of number) }
+    ensures effect { result.effect.now ≡ spelled (row_of number).effect }
+    ensures second { result.second ≡ (row_of number).second }
 {
-    let first = put_text(d, at, front);
+    PHRASES[number as usize - 1]
+}
+
+// Both places among their phrases, the second one unless it goes without saying.
+fn put_placed(d: &mut [u8], at: usize, phrase: Phrase, told: Told) -> usize
+    requires { at + length (placed phrase.second phrase.front.now phrase.effect.now told) ≤ length d.old }
+    ensures { Prints d.old at (placed phrase.second phrase.front.now phrase.effect.now told) d.new result }
+{
+    let first = put_text(d, at, phrase.front);
     let middle = put_decimal(d, first, told.first);
-    let behind = put_text(d, middle, effect);
-    if quiet {
+    let behind = put_text(d, middle, phrase.effect);
+    if phrase.second.is_unsaid(told) {
         return behind;
     }
-    let second = put_text(d, behind, mark);
-    put_decimal(d, second, told.second)
+    let last = put_text(d, behind, phrase.second.mark());
+    put_decimal(d, last, told.second)
 }
 
-// A second place of 0 goes without saying.
-fn alone(d: &mut [u8], at: usize, front: &[u8], effect: &[u8], told: Told) -> usize
-    requires { at + length (placed nought front.now effect.now told) ≤ length d.old }
-    ensures { Prints d.old at (placed nought front.now effect.now told) d.new result }
-{
-    let quiet = told.second == 0;
-    put_around(d, at, front, effect, b", second ", quiet, told)
-}
-
-// So does one that is the first place again.
-fn twice(d: &mut [u8], at: usize, front: &[u8], effect: &[u8], told: Told) -> usize
-    requires { at + length (placed again front.now effect.now told) ≤ length d.old }
-    ensures { Prints d.old at (placed again front.now effect.now told) d.new result }
-{
-    let quiet = told.second == told.first;
-    put_around(d, at, front, effect, b", second ", quiet, told)
-}
-
-// Two places of which the second is always told.
-fn both(d: &mut [u8], at: usize, front: &[u8], effect: &[u8], told: Told) -> usize
-    requires { at + length (placed another front.now effect.now told) ≤ length d.old }
-    ensures { Prints d.old at (placed another front.now effect.now told) d.new result }
-{
-    put_around(d, at, front, effect, b"", false, told)
-}
-
-// What is wrong with a number or a link of a file.
-fn put_file_fault(d: &mut [u8], at: usize, told: Told) -> usize
-    requires { (1 ≤ told.number) × (told.number ≤ 5) × (at + length (phrases (row_of told.number) told) ≤ length d.old) }
-    ensures { Prints d.old at (phrases (row_of told.number) told) d.new result }
-{
-    let number = told.number;
-    match number {
-        1 => alone(
-            d,
-            at,
-            b", short: the file ends before the number at byte ",
-            b" is whole",
-            told,
-        ),
-        2 => alone(
-            d,
-            at,
-            b", version: the version at byte ",
-            b" is not known here",
-            told,
-        ),
-        3 => alone(
-            d,
-            at,
-            b", count: the count at byte ",
-            b" is outside its limits",
-            told,
-        ),
-        4 => alone(
-            d,
-            at,
-            b", value: the number at byte ",
-            b" is outside its limits",
-            told,
-        ),
-        _ => alone(
-            d,
-            at,
-            b", link order: the link at byte ",
-            b" is not above the one before",
-            told,
-        ),
-    }
-}
-
-// The end of a file; what is wrong with the copies of one task.
-fn put_own_copies(d: &mut [u8], at: usize, told: Told) -> usize
-    requires { (6 ≤ told.number) × (told.number ≤ 10) × (at + length (phrases (row_of told.number) told) ≤ length d.old) }
-    ensures { Prints d.old at (phrases (row_of told.number) told) d.new result }
-{
-    let number = told.number;
-    match number {
-        6 => alone(
-            d,
-            at,
-            b", tail: the file goes on at byte ",
-            b", where it should end",
-            told,
-        ),
-        7 => alone(
-            d,
-            at,
-            b", unable: the node at byte ",
-            b" cannot run its task",
-            told,
-        ),
-        8 => twice(
-            d,
-            at,
-            b", same node: both copies of task ",
-            b" are on one node or supply",
-            told,
-        ),
-        9 => twice(
-            d,
-            at,
-            b", early: the backup of task ",
-            b" starts before a loss is noticed",
-            told,
-        ),
-        _ => twice(
-            d,
-            at,
-            b", late: the backup of task ",
-            b" ends after the deadline",
-            told,
-        ),
-    }
-}
-
-// What is wrong between tasks, or stops both copies of one.
-fn put_two_tasks(d: &mut [u8], at: usize, told: Told) -> usize
-    requires { (11 ≤ told.number) × (told.number ≤ 14) × (at + length (phrases (row_of told.number) told) ≤ length d.old) }
-    ensures { Prints d.old at (phrases (row_of told.number) told) d.new result }
-{
-    let number = told.number;
-    match number {
-        11 => both(
-            d,
-            at,
-            b", primary unfed: the result of task ",
-            b" is late for the primary of task ",
-            told,
-        ),
-        12 => both(
-            d,
-            at,
-            b", backup unfed: a result of task ",
-            b" is late for the backup of task ",
-            told,
-        ),
-        13 => twice(
-            d,
-            at,
-            b", common loss: one loss can stop both copies of task ",
-            b"",
-            told,
-        ),
-        _ => both(
-            d,
-            at,
-            b", overlap: one node is held at the same time by copies of tasks ",
-            b" and ",
-            told,
-        ),
-    }
-}
-
-// What planner, replay and a buffer lack.
-fn put_lack(d: &mut [u8], at: usize, told: Told) -> usize
-    requires { (15 ≤ told.number) × (told.number ≤ 18) × (at + length (phrases (row_of told.number) told) ≤ length d.old) }
-    ensures { Prints d.old at (phrases (row_of told.number) told) d.new result }
-{
-    let number = told.number;
-    match number {
-        15 => twice(
-            d,
-            at,
-            b", no primary: no node has a place for the primary of task ",
-            b"",
-            told,
-        ),
-        16 => twice(
-            d,
-            at,
-            b", no backup: no node has a place for the backup of task ",
-            b"",
-            told,
-        ),
-        17 => alone(
-            d,
-            at,
-            b", short buffer: the output needs room for ",
-            b" bytes",
-            told,
-        ),
-        _ => alone(
-            d,
-            at,
-            b", no such node: the loss of ",
-            b" takes no node of the job",
-            told,
-        ),
-    }
-}
-
-// What later requests refuse.
-fn put_later(d: &mut [u8], at: usize, told: Told) -> usize
-    requires { (19 ≤ told.number) × (told.number ≤ 22) × (at + length (phrases (row_of told.number) told) ≤ length d.old) }
-    ensures { Prints d.old at (phrases (row_of told.number) told) d.new result }
-{
-    let number = told.number;
-    match number {
-        19 => twice(
-            d,
-            at,
-            b", too soon: the primary of task ",
-            b" starts before it is ready",
-            told,
-        ),
-        20 => alone(
-            d,
-            at,
-            b", full: the job has no room for task ",
-            b" or its links",
-            told,
-        ),
-        21 => twice(
-            d,
-            at,
-            b", stale: the place for task ",
-            b" now breaks a rule; ask again",
-            told,
-        ),
-        _ => alone(
-            d,
-            at,
-            b", not a sentence: no refusal has it; its length or number: ",
-            b"",
-            told,
-        ),
-    }
-}
-
-// The phrases of any number of the tables.
+// The phrases of any number of the tables, and its places.
 pub fn put_phrases(d: &mut [u8], at: usize, told: Told) -> usize
     requires { (tabled told.number ≡ true) × (at + length (phrases (row_of told.number) told) ≤ length d.old) }
     ensures { Prints d.old at (phrases (row_of told.number) told) d.new result }
 {
-    let number = told.number;
-    if number <= 5 {
-        return put_file_fault(d, at, told);
-    }
-    if number <= 10 {
-        return put_own_copies(d, at, told);
-    }
-    if number <= 14 {
-        return put_two_tasks(d, at, told);
-    }
-    if number <= 18 {
-        return put_lack(d, at, told);
-    }
-    put_later(d, at, told)
+    put_placed(d, at, phrase_of(told.number), told)
 }

@@ -4,7 +4,7 @@
 
 ghost use Rattle.std.specs.Prelude.{◌≡◌};
 ghost use Rattle.std.proofs.Math.Option.{none, some};
-ghost use Rattle.reader.specs.Refusals.{answered, told, result_number};
+ghost use Rattle.reader.specs.Refusals.{answered, told, answer_of, result_number};
 ghost use Rattle.rules.specs.declared.Loss.TheVariants.{NoLoss, Lost};
 ghost use Rattle.seqopchi.specs.Files.{judge_files, plan_file, refusal_of, replay_files, sets_files};
 ghost use Rattle.booking.specs.Asks.{ask_files, places_after, commit_into};
@@ -161,7 +161,7 @@ pub extern "C" fn seqopchi_sentence(number: u32, first: u64, second: u64, out: &
 // Reads a sentence back into three numbers: the refusal's number and both places.
 #[unsafe(no_mangle)]
 pub extern "C" fn seqopchi_read_sentence(text: &[u8], parts: &mut [u64; 3]) -> u64
-    ensures { (result ≡ result_number (reading_of text.now (read_sentence text.now)).answer)
+    ensures { (result ≡ result_number (answer_of (reading_of text.now (read_sentence text.now))))
         × (parts.new ≡ handed (read_sentence text.now) parts.old) }
 {
     sentence::seqopchi_read_sentence(text, parts)

@@ -6,4 +6,4 @@ use Rattle.sentence.proofs.seqopchi_sentence.Goals as goal
 pub returns : goal.returns
 returns c =
     let printed = c.print_sentence.ensures in
-    (c.result.ensures ∙ sym (ap (λ w. result_number w.answer) printed), sym (ap (λ w. w.buffer) printed))
+    (c.result_number.ensures ∙ sym (ap (λ w. result_number w.answer) printed), sym (ap (λ w. w.buffer) printed))
