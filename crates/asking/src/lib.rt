@@ -52,8 +52,8 @@ pub fn commit(job: Job, plan: Plan, d: Description, place: Place) -> Result<(Job
     requires { Committing job plan d place }
     ensures { result ≡ committed (commit_of job plan d place) }
 {
-    let big = longer_job(job, d);
-    let long = longer_plan(job, plan, place);
+    let big = longer_job(&job, &d);
+    let long = longer_plan(&job, &plan, place);
     match judge_plan(&big, &long) {
         Ok(()) => Ok((big, long)),
         Err(_) => Err(Refusal::Stale(job.task_count as usize)),
