@@ -1,16 +1,12 @@
 -- Laws of one task: the state of a copy, and the numbers of a task.
-use Prim.Native.Nat.{ℕ, ◌≤◌, ◌<◌}
 use mathlib.Core.Bool.{Bool, true, false}
 use mathlib.Core.Path.{◌≡◌, refl, sym, ◌∙◌}
 use native.Mathlib.Omega.{arith}
-use borrow.Author.Tests.{eq-eqb, ne_eqb, lt-ltb, le-ltb, le-leb, lt-leb}
 use Rattle.reader.specs.declared.job.Job.{Job}
 use Rattle.reader.specs.Tests.{◌and◌}
 use Rattle.reader.proofs.TestLaws.{and_if, clash}
 use Rattle.rules.specs.declared.Copy.{Copy}
 use Rattle.rules.specs.declared.Loss.{Loss}
-use Rattle.rules.specs.declared.Loss.TheVariants.{NoLoss, Lost}
-use Rattle.rules.specs.Copies.{domain}
 use Rattle.rules.specs.Replay as rules
 use Rattle.rules.specs.Replay.{not_started, cut, finished, is_finished, state_number, started, attempt, finish_of}
 use Rattle.replay.specs.declared.states.Pair.{Pair}
@@ -20,34 +16,6 @@ use Rattle.replay.specs.declared.states.State.TheVariants.{NotStarted, Cut, Fini
 use denote.Enum.Bare.{sameb}
 use Rattle.replay.specs.contracts.states.State.{the_type}
 use Rattle.replay.specs.States.{state, number_of, run_fed, pair_row, outcome}
-
--- `state_of`
-module _ (job : Job) (loss : Loss) (may : Bool) (c : Copy) where
-  pub state_barred : may ≡ false → NotStarted ≡ state (attempt job loss may c)
-  unfolding attempt
-  state_barred e = rw e
-
-  pub state_safe : may ≡ true → loss ≡ NoLoss → Finished ≡ state (attempt job loss may c)
-  unfolding attempt started
-  state_safe e n = rw (e, n)
-
-  -- on a node of this group
-  module _ (q f group : ℕ) (e : may ≡ true) (n : loss ≡ Lost q f) (on : domain job c.node ≡ group) where
-    pub state_away : (group ≡ q → ⊥) → Finished ≡ state (attempt job loss may c)
-    unfolding attempt started
-    state_away h = rw (e, n, on, ne_eqb group q h)
-
-    pub state_late : group ≡ q → f ≤ c.start → NotStarted ≡ state (attempt job loss may c)
-    unfolding attempt started
-    state_late h p = rw (e, n, on, eq-eqb group q h, le-ltb c.start f p)
-
-    pub state_finished : group ≡ q → c.start < f → c.finish ≤ f → Finished ≡ state (attempt job loss may c)
-    unfolding attempt started
-    state_finished h p r = rw (e, n, on, eq-eqb group q h, lt-ltb c.start f p, le-leb c.finish f r)
-
-    pub state_cut : group ≡ q → c.start < f → f < c.finish → Cut ≡ state (attempt job loss may c)
-    unfolding attempt started
-    state_cut h p r = rw (e, n, on, eq-eqb group q h, lt-ltb c.start f p, lt-leb c.finish f r)
 
 -- states by their numbers
 pub two_finished : (s : rules.State) → is_finished s ≡ true → state_number s ≡ 2

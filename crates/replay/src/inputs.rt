@@ -8,6 +8,7 @@ use reader::plan::Place;
 // Later than any start: what no copy finished is never there.
 pub const NEVER: u32 = 4_000_000;
 
+#[tactic(auto, unfolding(crate::specs::Inputs::sent_at))]
 pub fn sent_at(o: Outcome) -> u32
     ensures { result ≡ sent_at o }
 {

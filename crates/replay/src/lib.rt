@@ -39,6 +39,7 @@ pub fn replay_plan(job: &Job, plan: &Plan, times: Option<&Times>, loss: Loss) ->
     let mut r = Progress::start();
     let mut k: usize = 0;
     for j in 0..n {
+        // No for: k goes on behind the links that went out before.
         while k < m && (job.links[k].from as usize) < j {
             let l = job.links[k];
             let node = r.node[l.from as usize];
@@ -58,6 +59,7 @@ pub fn replay_plan(job: &Job, plan: &Plan, times: Option<&Times>, loss: Loss) ->
 }
 
 // Replays, and writes what that tells of each task of the job.
+#[tactic(auto, using(crate::proofs::WriteLaws::replay_written))]
 pub fn replay_into(job: &Job, plan: &Plan, times: Option<&Times>, loss: Loss, out: &mut [u8])
     requires { Sound job.now
         × PlanSound job.now plan.now

@@ -70,6 +70,7 @@ pub fn pair_of(t: Task, x: Place, took: Took, own: Node, other: Node) -> Pair
 }
 
 // What becomes of a copy, on a node of this group, that may start, or may not.
+#[tactic(auto, unfolding(rules::specs::Replay::attempt, rules::specs::Replay::started))]
 pub fn state_of(loss: Loss, may: bool, c: Copy, group: u32) -> State
     ensures { (job : Job) → domain job c.node ≡ group → result ≡ state (attempt job loss may c) }
 {

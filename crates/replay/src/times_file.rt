@@ -14,6 +14,7 @@ use reader::refusal::Refusal;
 use rules::{Times, Took};
 
 // The listed run times of a task's copies at its place.
+#[tactic(auto, unfolding(rules::specs::Times::listed_at))]
 fn listed(t: Task, x: Place) -> Took
     requires { (x.primary_node < max_nodes) × (x.backup_node < max_nodes) }
     ensures { result ≡ listed_at t x }
@@ -76,6 +77,7 @@ fn read_times(file: &[u8], job: &Job, plan: &Plan) -> Result<Times, Refusal>
 }
 
 // The list, where one is given. Where none is, there is nothing to refuse.
+#[tactic(auto, unfolding(crate::specs::TimesFile::list_fault, crate::specs::TimesFile::times_in))]
 pub fn read_list(job: &Job, plan: &Plan, list: Option<&[u8]>) -> Result<Option<Times>, Refusal>
     requires { Sound job.now × PlanSound job.now plan.now }
     ensures { result

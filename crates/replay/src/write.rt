@@ -10,6 +10,7 @@ use crate::states::Outcome;
 use writer::put_number;
 
 // Writes the numbers of one task at an offset.
+#[tactic(auto, using(crate::proofs::WriteLaws::outcome_put))]
 pub fn put_outcome(d: &mut [u8], at: usize, o: Outcome)
     requires { at + 12 ≤ length d.old }
     ensures { d.new ≡ splice d.old at (pack (numbers o)) }

@@ -1,6 +1,0 @@
--- `seqopchi::seqopchi_replay` meets its contract.
-use Rattle.seqopchi.proofs.ReadLaws.{given}
-use Rattle.seqopchi.proofs.seqopchi_replay.Goals as goal
-
-pub returns : goal.returns
-returns c = given c.replay_files.ensures c.result_number.ensures
