@@ -69,11 +69,11 @@ pub version_read : {s : List ℕ} {r : Result ℕ Refusal} {x : ℕ} → r ≡ r
 version_read is q = record { fine = is_none _ _ _ is q; is = is_value _ _ _ is q }
 
 pub nodes_read : {s : List ℕ} {x : ℕ} {r : Result (Section Node max_nodes) Refusal} {ns : Section Node max_nodes} → VersionRead s x
-    → Reads (nodes_fault x s) r (λ ns. (ns.count ≤ max_nodes) × (ns.end ≤ 1024) × (ns.count ≡ number_at s node_section)
+    → Reads (nodes_fault x s) r (λ ns. (ns.count ≡ number_at s node_section)
     × (ns.list ≡ nodes_at x s ns.count) × (ns.end ≡ task_section x ns.count)) → r ≡ Ok ns → NodesRead s x ns
 nodes_read v reads q =
     let value = reads_value reads q in
-    record { version = v; fine = reads_none reads q; count = value.2; list = value.3; ends = value.4 }
+    record { version = v; fine = reads_none reads q; count = value.0; list = value.1; ends = value.2 }
 
 -- the tasks from the part of the file behind the nodes
 pub tasks_read : {s : List ℕ} {x : ℕ} {ns : Section Node max_nodes} {r : Result (Section Task max_tasks) Refusal}
@@ -86,11 +86,11 @@ tasks_read a reads q =
 
 pub links_read : {s : List ℕ} {x : ℕ} {ns : Section Node max_nodes} {ts : Section Task max_tasks}
     {r : Result (Section Link max_links) Refusal} {ls : Section Link max_links}
-    → TasksRead s x ns ts → Reads (links_fault s ts.end ts.count) r (λ ls. (ls.count ≤ max_links) × (ls.count ≡ number_at s ts.end)
+    → TasksRead s x ns ts → Reads (links_fault s ts.end ts.count) r (λ ls. (ls.count ≡ number_at s ts.end)
     × (ls.list ≡ links_at s ts.end ls.count) × (ls.end ≡ ts.end + 4 + 12 * ls.count)) → r ≡ Ok ls → LinksRead s x ns ts ls
 links_read b reads q =
     let value = reads_value reads q in
-    record { tasks = b; fine = reads_none reads q; count = value.1; list = value.2; ends = value.3 }
+    record { tasks = b; fine = reads_none reads q; count = value.0; list = value.1; ends = value.2 }
 
 -- the first fault is that of the part that is read next
 pub bad_version : (s : List ℕ) {r : Refusal} → version_fault newest_version s ≡ some r → job_fault s ≡ some r

@@ -52,8 +52,9 @@ fn width_if(has: bool) -> usize
 // them. It is its own group where it lacks one.
 fn read_node(file: &[u8], version: usize, number: u32, at: usize) -> Result<(Node, usize), Refusal>
     requires { at ≤ 16384 }
-    ensures { Reads (fields_fault version file.now at (node_fields number)) result
-        (λ read. (read.1 ≤ at + 32) × (read.0 ≡ node_at version file.now number at) × (read.1 ≡ at + node_width version)) }
+    ensures end_bound { IfOk result (λ read. read.1 ≤ at + 32) }
+    ensures reads { Reads (fields_fault version file.now at (node_fields number)) result
+        (λ read. (read.0 ≡ node_at version file.now number at) × (read.1 ≡ at + node_width version)) }
 {
     let detect = field(file, at, 0, Job::MAX_DETECT, Refusal::Value(at))?;
     let has_send = Job::SEND_SINCE <= version;
@@ -71,8 +72,8 @@ fn read_node(file: &[u8], version: usize, number: u32, at: usize) -> Result<(Nod
 
 // The node section.
 fn read_nodes(file: &[u8], version: usize) -> Result<Section<Node, { Job::MAX_NODES }>, Refusal>
-    ensures { Reads (nodes_fault version file.now) result
-        (λ nodes. (nodes.count ≤ max_nodes) × (nodes.end ≤ 1024) × (nodes.count ≡ number_at file.now node_section)
+    ensures count_le_max_nodes { IfOk result (λ nodes. (nodes.count ≤ max_nodes) × (nodes.end ≤ 1024)) }
+    ensures reads { Reads (nodes_fault version file.now) result (λ nodes. (nodes.count ≡ number_at file.now node_section)
         × (nodes.list ≡ nodes_at version file.now nodes.count) × (nodes.end ≡ task_section version nodes.count)) }
 {
     let count = field(file, 4, Job::MIN_NODES, Job::MAX_NODES, Refusal::Count(4))? as usize;
@@ -199,8 +200,8 @@ fn read_links(
     tasks: usize,
 ) -> Result<Section<Link, { Job::MAX_LINKS }>, Refusal>
     requires { (at ≤ 8192) × (min_tasks ≤ tasks) × (tasks ≤ max_tasks) }
-    ensures { Reads (links_fault file.now at tasks) result
-        (λ links. (links.count ≤ max_links) × (links.count ≡ number_at file.now at)
+    ensures count_le_max_links { IfOk result (λ links. links.count ≤ max_links) }
+    ensures reads { Reads (links_fault file.now at tasks) result (λ links. (links.count ≡ number_at file.now at)
         × (links.list ≡ links_at file.now at links.count) × (links.end ≡ at + 4 + 12 * links.count)) }
 {
     let count = field(file, at, 0, Job::MAX_LINKS, Refusal::Count(at))? as usize;

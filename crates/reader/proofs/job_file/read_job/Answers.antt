@@ -2,7 +2,7 @@
 use native.Mathlib.Omega.{arith}
 use Rattle.reader.specs.JobFile.{read_job}
 use Rattle.reader.proofs.NumberLaws.{is_fault}
-use Rattle.reader.proofs.Chain.{handed, refused, given, reads_some, reads_value}
+use Rattle.reader.proofs.Chain.{handed, refused, given, reads_some}
 use Rattle.reader.proofs.JobLaws.{version_read, nodes_read, tasks_read, links_read, rest_part}
 use Rattle.reader.proofs.JobLaws.{bad_version, bad_nodes, node_room, bad_tasks, task_least, bad_links, bad_tail, no_fault, job_is}
 use Rattle.reader.proofs.job_file.read_job.Goals as goal
@@ -15,33 +15,30 @@ pub returns-in_err-nodes : goal.returns-in_err-nodes
 unfolding read_job
 returns-in_err-nodes c =
     let version = version_read c.read_version.ensures c.in_ok-version.was in
-    handed _ _ c.from_residual-in_err-nodes.ensures.1 (bad_nodes version (reads_some c.read_nodes.ensures c.in_err-nodes.was))
+    handed _ _ c.from_residual-in_err-nodes.ensures.1 (bad_nodes version (reads_some c.read_nodes.ensures.reads c.in_err-nodes.was))
 
 pub slice_bounds-read_tasks-count : goal.slice_bounds-read_tasks-count
 slice_bounds-read_tasks-count c =
     let version = version_read c.read_version.ensures c.in_ok-version.was in
-    omega (arith, node_room (nodes_read version c.read_nodes.ensures c.in_ok-nodes.was))
+    omega (arith, node_room (nodes_read version c.read_nodes.ensures.reads c.in_ok-nodes.was))
 
 pub slice_bounds-read_tasks-start : goal.slice_bounds-read_tasks-start
 slice_bounds-read_tasks-start c =
     let version = version_read c.read_version.ensures c.in_ok-version.was in
-    omega (arith, node_room (nodes_read version c.read_nodes.ensures c.in_ok-nodes.was))
-
-pub read_tasks-requires : goal.read_tasks-requires
-read_tasks-requires c = let nodes = reads_value c.read_nodes.ensures c.in_ok-nodes.was in (nodes.1, nodes.0)
+    omega (arith, node_room (nodes_read version c.read_nodes.ensures.reads c.in_ok-nodes.was))
 
 pub returns-in_err-tasks : goal.returns-in_err-tasks
 unfolding read_job
 returns-in_err-tasks c =
     let version = version_read c.read_version.ensures c.in_ok-version.was in
-    let nodes = nodes_read version c.read_nodes.ensures c.in_ok-nodes.was in
+    let nodes = nodes_read version c.read_nodes.ensures.reads c.in_ok-nodes.was in
     let behind = c.read_tasks.ensures.by_index _ (rest_part c.args.file.now c.in_ok-nodes.nodes.end) in
     handed _ _ c.from_residual-in_err-tasks.ensures.1 (bad_tasks nodes (reads_some behind c.in_err-tasks.was))
 
 pub read_links-requires : goal.read_links-requires
 read_links-requires c =
     let version = version_read c.read_version.ensures c.in_ok-version.was in
-    let nodes = nodes_read version c.read_nodes.ensures c.in_ok-nodes.was in
+    let nodes = nodes_read version c.read_nodes.ensures.reads c.in_ok-nodes.was in
     let behind = c.read_tasks.ensures.by_index _ (rest_part c.args.file.now c.in_ok-nodes.nodes.end) in
     let few = c.in_ok-tasks.ensures.count_le_max_tasks in
     (few.1, task_least (tasks_read nodes behind c.in_ok-tasks.was), few.0)
@@ -50,31 +47,25 @@ pub returns-in_err-links : goal.returns-in_err-links
 unfolding read_job
 returns-in_err-links c =
     let version = version_read c.read_version.ensures c.in_ok-version.was in
-    let nodes = nodes_read version c.read_nodes.ensures c.in_ok-nodes.was in
+    let nodes = nodes_read version c.read_nodes.ensures.reads c.in_ok-nodes.was in
     let behind = c.read_tasks.ensures.by_index _ (rest_part c.args.file.now c.in_ok-nodes.nodes.end) in
     let tasks = tasks_read nodes behind c.in_ok-tasks.was in
-    handed _ _ c.from_residual-in_err-links.ensures.1 (bad_links tasks (reads_some c.read_links.ensures c.in_err-links.was))
+    handed _ _ c.from_residual-in_err-links.ensures.1 (bad_links tasks (reads_some c.read_links.ensures.reads c.in_err-links.was))
 
 pub returns-then-end-file : goal.returns-then-end-file
 unfolding read_job
 returns-then-end-file c =
     let version = version_read c.read_version.ensures c.in_ok-version.was in
-    let nodes = nodes_read version c.read_nodes.ensures c.in_ok-nodes.was in
+    let nodes = nodes_read version c.read_nodes.ensures.reads c.in_ok-nodes.was in
     let behind = c.read_tasks.ensures.by_index _ (rest_part c.args.file.now c.in_ok-nodes.nodes.end) in
-    let links = links_read (tasks_read nodes behind c.in_ok-tasks.was) c.read_links.ensures c.in_ok-links.was in
+    let links = links_read (tasks_read nodes behind c.in_ok-tasks.was) c.read_links.ensures.reads c.in_ok-links.was in
     refused _ (bad_tail links c.if-end-file.true)
-
-pub overflow_cast-result : goal.overflow_cast-result
-overflow_cast-result c = omega (arith, (reads_value c.read_nodes.ensures c.in_ok-nodes.was).0)
-
-pub overflow_cast-result-3 : goal.overflow_cast-result-3
-overflow_cast-result-3 c = omega (arith, (reads_value c.read_links.ensures c.in_ok-links.was).0)
 
 pub returns : goal.returns
 unfolding read_job
 returns c =
     let version = version_read c.read_version.ensures c.in_ok-version.was in
-    let nodes = nodes_read version c.read_nodes.ensures c.in_ok-nodes.was in
+    let nodes = nodes_read version c.read_nodes.ensures.reads c.in_ok-nodes.was in
     let behind = c.read_tasks.ensures.by_index _ (rest_part c.args.file.now c.in_ok-nodes.nodes.end) in
-    let links = links_read (tasks_read nodes behind c.in_ok-tasks.was) c.read_links.ensures c.in_ok-links.was in
+    let links = links_read (tasks_read nodes behind c.in_ok-tasks.was) c.read_links.ensures.reads c.in_ok-links.was in
     given _ (no_fault links c.if-end-file.false) (job_is links)

@@ -8,9 +8,9 @@ use Rattle.reader.proofs.ReadLoop.{read_begin, read_more, read_stop, read_fine, 
 use Rattle.reader.proofs.LinkLaws.{before_more, behind_same}
 use Rattle.reader.proofs.job_file.read_links.Goals as goal
 
-pub returns-in_err-count : goal.returns-in_err-count
+pub returns-in_err-count-clause-reads : goal.returns-in_err-count-clause-reads
 unfolding links_fault
-returns-in_err-count c = stopped _ c.from_residual.ensures.1 (stop _ (is_fault _ _ _ c.field.ensures c.in_err-count.was))
+returns-in_err-count-clause-reads c = stopped _ c.from_residual.ensures.1 (stop _ (is_fault _ _ _ c.field.ensures c.in_err-count.was))
 
 pub loop-k-init : goal.loop-k-init
 unfolding link_before
@@ -22,9 +22,9 @@ loop-k-init c =
 pub read_link-requires : goal.read_link-requires
 read_link-requires c = (omega (arith, c.loop-k.invariant.0), c.requires.1, c.requires.2)
 
-pub returns-in_err-before : goal.returns-in_err-before
+pub returns-in_err-before-clause-reads : goal.returns-in_err-before-clause-reads
 unfolding links_fault
-returns-in_err-before c =
+returns-in_err-before-clause-reads c =
     let l = c.loop-k.invariant in
     let bad = reads_some c.read_link.ensures c.in_err-before.was in
     stopped _ c.from_residual-in_err-before.ensures.1
@@ -40,9 +40,12 @@ loop-k-preserved c =
     let value = reads_value c.read_link.ensures c.in_ok-before.was in
     (l.0, before_more _ _ _ _ value, read_more _ _ _ _ _ _ _ _ l.2 _ c.loop-k-test.true (behind_same _ _ _ l.1 fine) value)
 
-pub returns : goal.returns
+pub returns-clause-count_le_max_links : goal.returns-clause-count_le_max_links
+returns-clause-count_le_max_links c = c.loop-k.invariant.0
+
+pub returns-clause-reads : goal.returns-clause-reads
 unfolding links_fault links_at
-returns c =
+returns-clause-reads c =
     let l = c.loop-k.invariant in
     let rows = read_end _ _ _ _ _ _ _ _ l.2 (omega arith) in
-    finished (read_fine _ _ _ _ _ _ _ _ l.2 (omega arith)) (l.0, rows.0, rows.1, refl)
+    finished (read_fine _ _ _ _ _ _ _ _ l.2 (omega arith)) (rows.0, rows.1, refl)
