@@ -8,6 +8,7 @@ use text::{ENOUGH, MAX_TEXT};
 fn main(rt: HostRuntime) -> io::Result<()> {
     let mut job = [0u8; ENOUGH];
     let mut input = rt.reader();
+    // A loop, since read_to_end needs a heap and read_exact fails on a shorter input.
     let mut n: usize = 0;
     while n < ENOUGH {
         let more = input.read(&mut job[n..])?;
