@@ -9,7 +9,7 @@ use Second::{Again, Another, Nought};
 use decimal::print::{put_decimal, put_text};
 use reader::refusal::Told;
 
-// What the tables have as second place: 0, the first place again, or one to tell.
+// What the tables have as second place: '/ 0', the first place again, or one to tell.
 #[derive(Clone, Copy)]
 pub enum Second {
     Nought,
