@@ -24,17 +24,17 @@ use seqopchi::read_files;
 const NO: u64 = 256;
 
 // The pass behind the last primary is that without loss. Two passes hold the losses of all others. What the judge says of the table is put aside.
-pub fn trial_plan(job: Job, plan: Plan) -> bool
-    requires { Sound job × PlanSound job plan }
-    ensures { (result ≡ true) ↔ Trial job plan }
+pub fn trial_plan(job: &Job, plan: &Plan) -> bool
+    requires { Sound job.now × PlanSound job.now plan.now }
+    ensures { (result ≡ true) ↔ Trial job.now plan.now }
 {
     let mut copies = Copies::empty();
     let mut leave = [0; Copies::COUNT];
-    let _ = place_copies(&job, &plan, &mut copies, &mut leave);
+    let _ = place_copies(job, plan, &mut copies, &mut leave);
     let n = job.task_count as usize;
-    pass(&job, &copies, &leave, n, true)
-        && pass(&job, &copies, &leave, 0, false)
-        && (n <= RUNS || pass(&job, &copies, &leave, RUNS, false))
+    pass(job, &copies, &leave, n, true)
+        && pass(job, &copies, &leave, 0, false)
+        && (n <= RUNS || pass(job, &copies, &leave, RUNS, false))
 }
 
 // Tries two files: 0 is yes.
@@ -42,7 +42,7 @@ pub fn seqopchi_trial(job: &[u8], plan: &[u8]) -> u64
     ensures { TrialAnswers job.now plan.now result }
 {
     match read_files(job, plan) {
-        Ok((value, places)) => if trial_plan(value, places) { 0 } else { NO },
+        Ok((job, plan)) => if trial_plan(&job, &plan) { 0 } else { NO },
         Err(refusal) => result_number(Err(refusal)),
     }
 }
