@@ -40,9 +40,9 @@ fn pair_at(
 }
 
 // The planner's own step for a new task beside the plan, with its primary anywhere. Of the longer job it makes the links alone.
-pub fn place_new(job: Job, plan: Plan, d: Description) -> Result<Pair, Refusal>
-    requires { Asking job plan d }
-    ensures { attempted result ≡ place_new job plan d }
+pub fn place_new(job: &Job, plan: &Plan, d: &Description) -> Result<Pair, Refusal>
+    requires { Asking job.now plan.now d.now }
+    ensures { attempted result ≡ place_new job.now plan.now d.now }
 {
     let old = job.link_count as usize;
     let new = d.link_count as usize;

@@ -39,21 +39,21 @@ pub fn full(tasks: u32, links: u32, new: u32) -> Result<(), Refusal>
 }
 
 // Where the new task would go beside the plan. Nothing is booked.
-pub fn ask(job: Job, plan: Plan, d: Description) -> Result<Place, Refusal>
-    requires { Asking job plan d }
-    ensures { result ≡ asked (ask_of job plan d) }
+pub fn ask(job: &Job, plan: &Plan, d: &Description) -> Result<Place, Refusal>
+    requires { Asking job.now plan.now d.now }
+    ensures { result ≡ asked (ask_of job.now plan.now d.now) }
 {
     let pair = place_new(job, plan, d)?;
     Ok(place_of(pair.primary, pair.backup))
 }
 
 // The new task at a proposed place, if it still keeps all rules there: the longer job, and the longer plan.
-pub fn commit(job: Job, plan: Plan, d: Description, place: Place) -> Result<(Job, Plan), Refusal>
-    requires { Committing job plan d place }
-    ensures { result ≡ committed (commit_of job plan d place) }
+pub fn commit(job: &Job, plan: &Plan, d: &Description, place: Place) -> Result<(Job, Plan), Refusal>
+    requires { Committing job.now plan.now d.now place }
+    ensures { result ≡ committed (commit_of job.now plan.now d.now place) }
 {
-    let big = longer_job(&job, &d);
-    let long = longer_plan(&job, &plan, place);
+    let big = longer_job(job, d);
+    let long = longer_plan(job, plan, place);
     match judge_plan(&big, &long) {
         Ok(()) => Ok((big, long)),
         Err(_) => Err(Refusal::Stale(job.task_count as usize)),

@@ -36,7 +36,7 @@ pub fn ask_files(job: &[u8], plan: &[u8], task: &[u8]) -> Result<Place, Refusal>
     let tasks = job.task_count as usize;
     let description = read_question(task, version, nodes, tasks)?;
     full(job.task_count, job.link_count, description.link_count)?;
-    ask(job, plan, description)
+    ask(&job, &plan, &description)
 }
 
 // The longer job and the longer plan, with the task at the place of a booking.
@@ -49,7 +49,7 @@ pub fn commit_files(job: &[u8], plan: &[u8], booking: &[u8]) -> Result<(Job, Pla
     let tasks = job.task_count as usize;
     let (description, place) = read_booking(booking, version, nodes, tasks)?;
     full(job.task_count, job.link_count, description.link_count)?;
-    commit(job, plan, description, place)
+    commit(&job, &plan, &description, place)
 }
 
 // Both as files. Nothing is written before it is known that both have room.
