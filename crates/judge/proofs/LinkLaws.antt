@@ -12,7 +12,7 @@ use lib.Dec.{eqb}
 use lib.ListN.{get_or, set, length, replicate, length-replicate, length-set}
 use lib.Seq.{get_or-set_same, get_or-set_other}
 use borrow.Author.Tests.{eqb-true, eqb-false, eq-eqb}
-use Rattle.std.specs.Prelude.{Result}
+use Rattle.std.specs.Prelude.{Result, Option as Maybe, Some, None}
 use Rattle.reader.specs.declared.job.Job.{Job}
 use Rattle.reader.specs.declared.refusal.Refusal.{Refusal}
 use Rattle.reader.specs.declared.refusal.Refusal.TheVariants.{PrimaryUnfed}
@@ -39,7 +39,7 @@ use Rattle.copies.proofs.ArrivalLaws.{comes_is}
 use Rattle.copies.proofs.ListMore.{replicated}
 use Rattle.copies.proofs.SetLaws.{has_union, has_none}
 use Rattle.copies.proofs.MemberLaws.{late_has}
-use Rattle.judge.specs.Notes.{nowhere, first_broken, noted_of, seen}
+use Rattle.judge.specs.Notes.{first_broken, noted_of, seen}
 use Rattle.judge.specs.Parts.{by_links}
 use Rattle.judge.specs.Links.{Timed, WeakTo, sure, SureBut, LinksJudged}
 use Rattle.judge.proofs.NoteLaws.{note_start, note_more, note_below, note_seen}
@@ -89,14 +89,14 @@ abbrev keeps_d : Job → Copies → ℕ → Bool
 keeps_d job cs k = rule_d job (link job k) (row_of cs (link job k).from) (row_of cs (link job k).to).primary
 
 -- after the first k links
-pub record Walking (job : Job) (cs : Copies) (k : ℕ) (into : List ℕ) (primary unsure : ℕ) : Type 0 where
+pub record Walking (job : Job) (cs : Copies) (k : ℕ) (into : List ℕ) (primary : Maybe ℕ) (unsure : ℕ) : Type 0 where
   pub within : k ≤ links job
   pub size : length into ≡ max_tasks
   pub weak : WeakTo job (row_of cs) k into
   pub d : primary ≡ first_broken k (keeps_d job cs)
   pub e : SureBut job (row_of cs) k unsure
 
-pub walk_start : (job : Job) (cs : Copies) (into : List ℕ) → into ≡ replicate max_tasks 0 → Walking job cs 0 into nowhere 0
+pub walk_start : (job : Job) (cs : Copies) (into : List ℕ) → into ≡ replicate max_tasks 0 → Walking job cs 0 into None 0
 walk_start job cs into zeros =
     record {
       within = omega arith;
@@ -129,14 +129,13 @@ module _ (job : Job) (cs : Copies) (leave : List ℕ) (timed : Timed job cs leav
       er ∙ ap₂ comes (ec ∙ ap (λ x. result (m x)) ei ∙ is) (ed ∙ ap (λ x. entry cs (n x)) ej)
       ∙ comes_is job (link job k) _ _
 
-  pub walk_more : (into : List ℕ) (primary unsure : ℕ) → Walking job cs k into primary unsure
+  pub walk_more : (into : List ℕ) (primary : Maybe ℕ) (unsure : ℕ) → Walking job cs k into primary unsure
       → (p b : Outgoing) (q c : Copy) → p ≡ result (2 * i) → b ≡ result (2 * i + 1) → q ≡ entry cs (2 * j) → c ≡ entry cs (2 * j + 1)
       → (x y z s : Bool) → x ≡ comes p q → y ≡ comes p c → z ≡ comes b c → s ≡ comes b q
-      → (u v w bit : ℕ) → u ≡ noted_of primary k x → v ≡ cond y 0 (2 ^ i) → w ≡ cond z 0 (2 ^ i) → bit ≡ cond s 0 (2 ^ i)
+      → (u : Maybe ℕ) (v w bit : ℕ) → u ≡ noted_of primary k x → v ≡ cond y 0 (2 ^ i) → w ≡ cond z 0 (2 ^ i) → bit ≡ cond s 0 (2 ^ i)
       → Walking job cs (k + 1) (set into j (bit_or (get_or into j 0) bit)) u (bit_or unsure (bit_or v w))
   unfolding row_of rule_d waits_for_both strong
   walk_more into primary unsure h p b q c ep eb eq ec x y z s ex ey ez es u v w bit eu ev ew ebit =
-      let small : k < nowhere = omega (arith, timed.few) in
       record {
         within = omega arith;
         size = length-set into _ _ ∙ h.size;
@@ -144,7 +143,7 @@ module _ (job : Job) (cs : Copies) (leave : List ℕ) (timed : Timed job cs leav
             subst (λ m. WeakTo job (row_of cs) (k + 1) (set into m (bit_or (get_or into m 0) bit))) (sym ej)
             (weak_more job (row_of cs) k into h.weak s bit (arrival (λ m. 2 * m + 1) (λ m. 2 * m) (timed.backup k low) b q s eb eq es)
             (ebit ∙ ap (λ m. cond s 0 (2 ^ m)) ei) (omega (arith, timed.to k low, h.size)));
-        d = note_more (keeps_d job cs) k primary u x small h.d (arrival (λ m. 2 * m) (λ m. 2 * m) (timed.primary k low) p q x ep eq ex) eu;
+        d = note_more (keeps_d job cs) k primary u x h.d (arrival (λ m. 2 * m) (λ m. 2 * m) (timed.primary k low) p q x ep eq ex) eu;
         e = λ m p f. elim (dec_lt m k) [
           | yes below ↦ stays y z unsure v w i ev ew _ (h.e m below f)
           | no above ↦
@@ -167,13 +166,13 @@ answer_resulted (some r) v = refl
 abbrev pub link_refusal : Job → (ℕ → ℕ → Refusal) → ℕ → Refusal
 link_refusal job refusal k = refusal (link job k).from (link job k).to
 
-module _ (job : Job) (cs : Copies) (leave : List ℕ) (timed : Timed job cs leave) (k : ℕ) (into : List ℕ) (primary unsure : ℕ)
+module _ (job : Job) (cs : Copies) (leave : List ℕ) (timed : Timed job cs leave) (k : ℕ) (into : List ℕ) (primary : Maybe ℕ) (unsure : ℕ)
     (h : Walking job cs k into primary unsure) (end : links job ≤ k) where
   all : Walking job cs (links job) into primary unsure
   all = let d : k ≡ links job = omega (arith, h.within) in subst (λ n. Walking job cs n into primary unsure) d h
 
-  pub primary_index : (primary ≡ nowhere → ⊥) → primary < max_links
-  primary_index h = omega (arith, timed.few, note_below (keeps_d job cs) (links job) primary timed.few all.d h)
+  pub primary_index : (i : ℕ) → primary ≡ Some i → i < max_links
+  primary_index i h = omega (arith, timed.few, note_below (keeps_d job cs) (links job) primary all.d i h)
 
   pub walk_done : (r : Result ℕ Refusal) → r ≡ resulted (seen (link_refusal job PrimaryUnfed) primary) unsure → LinksJudged job cs into r
   unfolding by_links first_link
@@ -182,6 +181,6 @@ module _ (job : Job) (cs : Copies) (leave : List ℕ) (timed : Timed job cs leav
         weak = all.weak;
         answer =
             ap answer_of e ∙ answer_resulted _ _
-            ∙ ap answered (note_seen (keeps_d job cs) (links job) primary timed.few all.d (link_refusal job PrimaryUnfed));
+            ∙ ap answered (note_seen (keeps_d job cs) (links job) primary all.d (link_refusal job PrimaryUnfed));
         unsure = λ u is. subst (SureBut job (row_of cs) (links job)) (sym (resulted_value unsure _ (sym e ∙ is))) all.e;
       }

@@ -7,12 +7,13 @@ use native.Mathlib.Nat.{not-suc-le-zero}
 use native.Mathlib.Omega.{arith}
 use lib.Dec.{eqb, leb}
 use lib.ListN.{set, replicate}
+use Rattle.std.specs.Prelude.{Option as Maybe, None}
 use Rattle.reader.specs.declared.job.Job.{Job}
 use Rattle.reader.specs.declared.plan.Plan.{Plan}
 use Rattle.reader.specs.declared.refusal.Refusal.TheVariants.{SameNode, TooSoon, Early, Late}
 use Rattle.reader.specs.Refusals.{Answer}
 use Rattle.reader.specs.First.{◌or_else◌}
-use Rattle.reader.specs.Limits.{max_send, max_group, max_tasks, max_time, max_start}
+use Rattle.reader.specs.Limits.{max_send, max_group, max_time, max_start}
 use Rattle.reader.specs.Entries.{nodes, tasks, detect, group, ready, deadline, task, place}
 use Rattle.reader.specs.Refusals.{answered}
 use Rattle.reader.specs.Sound.{Sound, PlanSound}
@@ -27,7 +28,7 @@ use Rattle.copies.specs.Sets.{every_group}
 use Rattle.copies.specs.Arrival.{leave_of, Leaving}
 use Rattle.copies.specs.Table.{copy_count, Whole, Stored}
 use Rattle.copies.proofs.ArrivalLaws.{leaving_start, leaving_more}
-use Rattle.judge.specs.Notes.{nowhere, first_broken, noted_of, seen}
+use Rattle.judge.specs.Notes.{first_broken, noted_of, seen}
 use Rattle.judge.specs.Parts.{by_tasks}
 use Rattle.judge.specs.Tasks.{CopyFits, copy_on, Placeable, Tabled, TasksJudged}
 use Rattle.judge.proofs.NoteLaws.{note_start, note_more, note_seen}
@@ -63,7 +64,7 @@ leaves_soon job plan h j low p b ip ib =
     (rw ip (omega (arith, (h.primary j low).ends, h.primary_sends j low)), rw ib (omega (arith, (h.backup j low).ends, h.backup_sends j low)))
 
 -- after the first j tasks
-pub record Placing (job : Job) (plan : Plan) (j : ℕ) (cs : Copies) (leave : List ℕ) (same soon early late : ℕ) : Type 0 where
+pub record Placing (job : Job) (plan : Plan) (j : ℕ) (cs : Copies) (leave : List ℕ) (same soon early late : Maybe ℕ) : Type 0 where
   pub within : j ≤ tasks job
   pub tabled : Tabled job plan j cs
   pub leaving : Leaving job (2 * j) cs leave
@@ -74,7 +75,7 @@ pub record Placing (job : Job) (plan : Plan) (j : ℕ) (cs : Copies) (leave : Li
 
 module _ (job : Job) (plan : Plan) where
   pub placing_start : (cs : Copies) (leave : List ℕ) → Whole cs → leave ≡ replicate copy_count 0
-      → Placing job plan 0 cs leave nowhere nowhere nowhere nowhere
+      → Placing job plan 0 cs leave None None None None
   placing_start cs leave whole zeros =
       record {
         within = omega arith;
@@ -117,12 +118,12 @@ module _ (job : Job) (plan : Plan) where
       }
 
   -- one task more, with its copies p and b
-  pub placing_more : Placeable job plan → (j : ℕ) (cs : Copies) (leave : List ℕ) (same soon early late : ℕ)
+  pub placing_more : Placeable job plan → (j : ℕ) (cs : Copies) (leave : List ℕ) (same soon early late : Maybe ℕ)
       → Placing job plan j cs leave same soon early late → j < tasks job
       → (p b : Copy)
       → p ≡ copy_on (task job j) (place plan j).primary_node (place plan j).primary_start
       → b ≡ copy_on (task job j) (place plan j).backup_node (place plan j).backup_start
-      → (x w y z : ℕ)
+      → (x w y z : Maybe ℕ)
       → x ≡ noted_of same j (not (eqb (group job p.node) (group job b.node)))
       → w ≡ noted_of soon j (leb (ready job j) p.start)
       → y ≡ noted_of early j (leb (p.finish + detect job p.node) b.start)
@@ -134,7 +135,6 @@ module _ (job : Job) (plan : Plan) where
   placing_more fits j cs leave same soon early late h low p b ip ib x w y z ex ew ey ez own eo ds es first second whole =
       let ep : p ≡ (rows job plan j).primary = ip ∙ sym (row_primary job plan (tasks job) j low) in
       let eb : b ≡ (rows job plan j).backup = ib ∙ sym (row_backup job plan (tasks job) j low) in
-      let small : j < nowhere = omega arith in
       let next : 2 * j + 1 + 1 ≡ 2 * (j + 1) = omega arith in
       let leaves = leaves_soon job plan fits j low p b ip ib in
       record {
@@ -146,27 +146,26 @@ module _ (job : Job) (plan : Plan) where
             (leaving_more job (2 * j) cs leave h.leaving ds (λ k q. first.other k (λ e. omega arith)) (omega arith) _
             (ap (leave_of job) (sym first.here)) leaves.0)
             es (λ k q. second.other k (λ e. omega arith)) (omega arith) _ (ap (leave_of job) (sym second.here)) leaves.1);
-        a = note_more _ j same x _ small h.a (ap₂ (λ (c d : Copy). not (eqb (group job c.node) (group job d.node))) ep eb) ex;
-        ready = note_more _ j soon w _ small h.ready (ap (λ (c : Copy). leb (ready job j) c.start) ep) ew;
-        b = note_more _ j early y _ small h.b (ap₂ (λ (c d : Copy). leb (c.finish + detect job c.node) d.start) ep eb) ey;
-        c = note_more _ j late z _ small h.c (ap (λ (d : Copy). leb d.finish (deadline job j)) eb) ez;
+        a = note_more _ j same x _ h.a (ap₂ (λ (c d : Copy). not (eqb (group job c.node) (group job d.node))) ep eb) ex;
+        ready = note_more _ j soon w _ h.ready (ap (λ (c : Copy). leb (ready job j) c.start) ep) ew;
+        b = note_more _ j early y _ h.b (ap₂ (λ (c d : Copy). leb (c.finish + detect job c.node) d.start) ep eb) ey;
+        c = note_more _ j late z _ h.c (ap (λ (d : Copy). leb d.finish (deadline job j)) eb) ez;
       }
 
-  pub placing_done : tasks job ≤ max_tasks → (j : ℕ) (cs : Copies) (leave : List ℕ) (same soon early late : ℕ)
+  pub placing_done : (j : ℕ) (cs : Copies) (leave : List ℕ) (same soon early late : Maybe ℕ)
       → Placing job plan j cs leave same soon early late → tasks job ≤ j
       → (v : Answer) → v ≡ answered (seen SameNode same or_else seen TooSoon soon or_else seen Early early or_else seen Late late)
       → TasksJudged job plan cs leave v
   unfolding by_tasks first_task
-  placing_done most j cs leave same soon early late h end v e =
+  placing_done j cs leave same soon early late h end v e =
       let d : j ≡ tasks job = omega (arith, h.within) in
       let g = subst (λ n. Placing job plan n cs leave same soon early late) d h in
-      let few : tasks job ≤ nowhere = omega arith in
       record {
         tabled = g.tabled;
         leaving = g.leaving;
         answer =
             e ∙ ap answered
-            (ap₂ ◌or_else◌ (note_seen _ (tasks job) same few g.a SameNode)
-            (ap₂ ◌or_else◌ (note_seen _ (tasks job) soon few g.ready TooSoon)
-            (ap₂ ◌or_else◌ (note_seen _ (tasks job) early few g.b Early) (note_seen _ (tasks job) late few g.c Late))));
+            (ap₂ ◌or_else◌ (note_seen _ (tasks job) same g.a SameNode)
+            (ap₂ ◌or_else◌ (note_seen _ (tasks job) soon g.ready TooSoon)
+            (ap₂ ◌or_else◌ (note_seen _ (tasks job) early g.b Early) (note_seen _ (tasks job) late g.c Late))));
       }

@@ -3,7 +3,7 @@ ghost use Rattle.std.specs.Prelude.{◌≡◌, replicate};
 ghost use Rattle.reader.specs.Limits.{max_tasks};
 ghost use Rattle.judge.specs.Links.{Timed, LinksJudged};
 
-use crate::note::{NONE, noted};
+use crate::note::noted;
 use copies::arrival::in_time;
 use copies::sets::late_bit;
 use copies::table::Copies;
@@ -21,7 +21,7 @@ pub fn walk_links(
     requires { Timed job.now copies.now leave.now × (into.old ≡ replicate max_tasks 0) }
     ensures { LinksJudged job.now copies.now into.new result }
 {
-    let mut primary = NONE;
+    let mut primary = None;
     let mut unsure = 0;
     for k in 0..job.link_count as usize {
         let l = &job.links[k];
@@ -37,8 +37,8 @@ pub fn walk_links(
         unsure |= first | second;
         into[j] |= late_bit(in_time(b, q), i);
     }
-    if primary != NONE {
-        let l = &job.links[primary];
+    if let Some(k) = primary {
+        let l = &job.links[k];
         return Err(Refusal::PrimaryUnfed(l.from as usize, l.to as usize));
     }
     Ok(unsure)

@@ -16,7 +16,7 @@ use copies::table::Copies;
 use reader::job::Job;
 use reader::refusal::Refusal;
 
-// The number of no pair: above that of each.
+// Above the number of each pair, so that a minimum of pairs begins with it; as an Option each minimum would have a case for none.
 const NO_PAIR: usize = Job::MAX_TASKS * Job::MAX_TASKS;
 
 // The tasks of two entries as one number, which rises with the lower task, then with the higher.

@@ -8,7 +8,7 @@ ghost use Rattle.copies.specs.Table.{copy_count, Whole};
 ghost use Rattle.judge.specs.Notes.{seen};
 ghost use Rattle.judge.specs.Tasks.{Placeable, TasksJudged};
 
-use crate::note::{NONE, noted};
+use crate::note::noted;
 use copies::sets::{ALL, bit_of};
 use copies::table::Copies;
 use reader::job::Job;
@@ -29,20 +29,25 @@ pub fn copy_of(node: u32, start: u32, run: u32) -> Copy
 }
 
 // The first refusal, where the first tasks that break A, the ready time, B and C are noted.
-fn task_answer(same: usize, soon: usize, early: usize, late: usize) -> Result<(), Refusal>
+fn task_answer(
+    same: Option<usize>,
+    soon: Option<usize>,
+    early: Option<usize>,
+    late: Option<usize>,
+) -> Result<(), Refusal>
     ensures { result ≡ answered (seen SameNode same or_else seen TooSoon soon or_else seen Early early or_else seen Late late) }
 {
-    if same != NONE {
-        return Err(Refusal::SameNode(same));
+    if let Some(j) = same {
+        return Err(Refusal::SameNode(j));
     }
-    if soon != NONE {
-        return Err(Refusal::TooSoon(soon));
+    if let Some(j) = soon {
+        return Err(Refusal::TooSoon(j));
     }
-    if early != NONE {
-        return Err(Refusal::Early(early));
+    if let Some(j) = early {
+        return Err(Refusal::Early(j));
     }
-    if late != NONE {
-        return Err(Refusal::Late(late));
+    if let Some(j) = late {
+        return Err(Refusal::Late(j));
     }
     Ok(())
 }
@@ -58,10 +63,10 @@ pub fn place_copies(
     requires { Placeable job.now plan.now × Whole copies.old × (leave.old ≡ replicate copy_count 0) }
     ensures { TasksJudged job.now plan.now copies.new leave.new result }
 {
-    let mut same = NONE;
-    let mut soon = NONE;
-    let mut early = NONE;
-    let mut late = NONE;
+    let mut same = None;
+    let mut soon = None;
+    let mut early = None;
+    let mut late = None;
     for j in 0..job.task_count as usize {
         let x = &plan.places[j];
         let task = &job.tasks[j];

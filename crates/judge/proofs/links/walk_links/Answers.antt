@@ -16,16 +16,14 @@ loop-k-preserved c =
     c.in_time-in-loop-k-3.ensures _ _ _ _ c.noted-primary.ensures c.late_bit-first.ensures
     c.late_bit-second.ensures c.late_bit.ensures
 
-pub offset_bounds-job-primary : goal.offset_bounds-job-primary
-offset_bounds-job-primary c =
-    omega (arith, primary_index _ _ _ c.requires.0 _ _ _ _ c.loop-k.invariant (omega arith) c.if-primary-ne-NONE.true)
+pub offset_bounds-job-k-in-Some : goal.offset_bounds-job-k-in-Some
+offset_bounds-job-k-in-Some c = omega (arith, primary_index _ _ _ c.requires.0 _ _ _ _ c.loop-k.invariant (omega arith) _ c.in-Some.is)
 
-pub bounds-job-primary : goal.bounds-job-primary
-bounds-job-primary c = primary_index _ _ _ c.requires.0 _ _ _ _ c.loop-k.invariant (omega arith) c.if-primary-ne-NONE.true
+pub bounds-job-k-in-Some : goal.bounds-job-k-in-Some
+bounds-job-k-in-Some c = primary_index _ _ _ c.requires.0 _ _ _ _ c.loop-k.invariant (omega arith) _ c.in-Some.is
 
-pub returns-then-primary-ne-NONE : goal.returns-then-primary-ne-NONE
-returns-then-primary-ne-NONE c =
-    walk_done _ _ _ c.requires.0 _ _ _ _ c.loop-k.invariant (omega arith) _ (seen_last _ _ _ c.if-primary-ne-NONE.true)
+pub returns-in-Some : goal.returns-in-Some
+returns-in-Some c = walk_done _ _ _ c.requires.0 _ _ _ _ c.loop-k.invariant (omega arith) _ (seen_last _ _ c.in-Some.is)
 
 pub returns : goal.returns
-returns c = walk_done _ _ _ c.requires.0 _ _ _ _ c.loop-k.invariant (omega arith) _ (seen_done _ _ _ c.if-primary-ne-NONE.false)
+returns c = walk_done _ _ _ c.requires.0 _ _ _ _ c.loop-k.invariant (omega arith) _ (seen_done _ _ c.in_default.is)

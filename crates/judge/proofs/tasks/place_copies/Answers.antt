@@ -17,4 +17,4 @@ loop-j-preserved c =
     c.put.ensures.1 c.put-in-loop-j.ensures.1 c.put-in-loop-j.ensures.0
 
 pub returns : goal.returns
-returns c = placing_done _ _ c.requires.0.few _ _ _ _ _ _ _ c.loop-j.invariant (omega arith) _ c.task_answer.ensures
+returns c = placing_done _ _ _ _ _ _ _ _ _ c.loop-j.invariant (omega arith) _ c.task_answer.ensures

@@ -2,22 +2,21 @@
 use Rattle.judge.proofs.NoteLaws.{seen_last, seen_done, seen_stop, seen_on}
 use Rattle.judge.proofs.tasks.task_answer.Goals as goal
 
-pub returns-then-same-ne-NONE : goal.returns-then-same-ne-NONE
-returns-then-same-ne-NONE c = seen_stop _ _ _ _ c.if-same-ne-NONE.true
+pub returns-in-Some : goal.returns-in-Some
+returns-in-Some c = seen_stop _ _ _ c.in-Some.is
 
-pub returns-then-soon-ne-NONE : goal.returns-then-soon-ne-NONE
-returns-then-soon-ne-NONE c = seen_on _ _ _ _ _ c.if-same-ne-NONE.false (seen_stop _ _ _ _ c.if-soon-ne-NONE.true)
+pub returns-in-Some-soon : goal.returns-in-Some-soon
+returns-in-Some-soon c = seen_on _ _ _ _ c.in_default.is (seen_stop _ _ _ c.in-Some-soon.is)
 
-pub returns-then-early-ne-NONE : goal.returns-then-early-ne-NONE
-returns-then-early-ne-NONE c =
-    seen_on _ _ _ _ _ c.if-same-ne-NONE.false (seen_on _ _ _ _ _ c.if-soon-ne-NONE.false (seen_stop _ _ _ _ c.if-early-ne-NONE.true))
+pub returns-in-Some-early : goal.returns-in-Some-early
+returns-in-Some-early c = seen_on _ _ _ _ c.in_default.is (seen_on _ _ _ _ c.in_default-soon.is (seen_stop _ _ _ c.in-Some-early.is))
 
-pub returns-then-late-ne-NONE : goal.returns-then-late-ne-NONE
-returns-then-late-ne-NONE c =
-    seen_on _ _ _ _ _ c.if-same-ne-NONE.false (seen_on _ _ _ _ _ c.if-soon-ne-NONE.false
-    (seen_on _ _ _ _ _ c.if-early-ne-NONE.false (seen_last _ _ _ c.if-late-ne-NONE.true)))
+pub returns-in-Some-late : goal.returns-in-Some-late
+returns-in-Some-late c =
+    seen_on _ _ _ _ c.in_default.is (seen_on _ _ _ _ c.in_default-soon.is
+    (seen_on _ _ _ _ c.in_default-early.is (seen_last _ _ c.in-Some-late.is)))
 
 pub returns : goal.returns
 returns c =
-    seen_on _ _ _ _ _ c.if-same-ne-NONE.false (seen_on _ _ _ _ _ c.if-soon-ne-NONE.false
-    (seen_on _ _ _ _ _ c.if-early-ne-NONE.false (seen_done _ _ _ c.if-late-ne-NONE.false)))
+    seen_on _ _ _ _ c.in_default.is (seen_on _ _ _ _ c.in_default-soon.is
+    (seen_on _ _ _ _ c.in_default-early.is (seen_done _ _ c.in_default-late.is)))
