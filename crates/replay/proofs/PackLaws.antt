@@ -4,19 +4,13 @@ use mathlib.Core.Path.{◌≡◌, sym, ap, ◌∙◌}
 use mathlib.Core.List.{List, [], ◌∷◌, ◌++◌}
 use lib.ListN.{length, get_or, length-append, get_or-append}
 use lib.Seq.{get_or-append-add}
-use native.Mathlib.Numerals.{add-one}
 use native.Mathlib.Nat.{not-suc-le-zero, mul-suc, mul-le-mul_left}
 use native.Mathlib.Omega.{arith}
 use Rattle.reader.specs.Number.{number_at, bytes}
 use Rattle.writer.specs.Write.{pack, flat}
 use Rattle.reader.proofs.TestLaws.{below_suc}
 use Rattle.reader.proofs.ByteLaws.{first_number, number_drop}
-use Rattle.writer.proofs.PutLaws.{length_pack, pack_append}
-
--- one row more
-pub pack_more : (f : ℕ → List ℕ) (n : ℕ) → pack (flat n f) ++ pack (f n) ≡ pack (flat (n + 1) f)
-unfolding flat
-pack_more f n = rw add-one (sym (pack_append (flat n f) (f n)))
+use Rattle.writer.proofs.PutLaws.{length_pack}
 
 -- number i of a list that was packed
 number_pack : (vs : List ℕ) (i : ℕ) → i < length vs → get_or vs i 0 < 2 ^ 32 → number_at (pack vs) (4 * i) ≡ get_or vs i 0

@@ -70,5 +70,5 @@ pub fn replay_into(job: &Job, plan: &Plan, times: Option<&Times>, loss: Loss, ou
 {
     let o = replay_plan(job, plan, times, loss);
     let n = job.task_count as usize;
-    write_outcomes(o, n, out);
+    write_outcomes(&o, n, out);
 }

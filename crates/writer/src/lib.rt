@@ -27,7 +27,7 @@ pub fn put_number(d: &mut [u8], at: usize, v: u32)
 }
 
 // The same; gives the offset behind, as all functions that put do.
-fn put(d: &mut [u8], at: usize, v: u32) -> usize
+pub fn put(d: &mut [u8], at: usize, v: u32) -> usize
     requires { at + 4 ≤ length d.old }
     ensures { Puts d.old at (v ∷ []) d.new result }
 {
@@ -58,7 +58,7 @@ pub trait Entry {
 }
 
 // The first rows of an array, one behind the other, from an offset.
-fn put_rows<T: Entry, const N: usize>(
+pub fn put_rows<T: Entry, const N: usize>(
     d: &mut [u8],
     from: usize,
     form: T::Form,
