@@ -19,12 +19,13 @@ use Rattle.reader.proofs.NumberLaws.{is_none, is_value, is_fault}
 use Rattle.reader.proofs.Chain.{pass, stop, stopped, finished, reads_none, reads_some, reads_value}
 use Rattle.reader.proofs.FieldLaws.{field_good}
 use Rattle.reader.proofs.FirstLaws.{or_else_r, first_start, first_more, first_found}
+use Rattle.history.specs.declared.times.RunTimes.{RunTimes}
 use Rattle.history.specs.declared.window.Timing.{Timing}
 use Rattle.history.specs.declared.window.Window.{Window}
 use Rattle.history.specs.Log.{min_ticks, timing_at, timing_fault, records, record_at, record_fault, log_fault}
 use Rattle.history.specs.Window.{cell_of, empty_window}
 use Rattle.history.specs.Ring.{Formed, Holding, Takes}
-use Rattle.history.specs.Promise.{Runs, OneRead, AllRead}
+use Rattle.history.specs.Promise.{Runs, TimesOf, OneRead, AllRead}
 use Rattle.history.proofs.WindowLaws.{empty_formed, empty_holds}
 
 -- the run time that the row of run times has
@@ -33,10 +34,10 @@ pub run_is : (job : Job) (runs : List ℕ) (j n p : ℕ) → Runs job runs → j
 run_is job runs j n p h a b e = sym (h.is j n a b) ∙ ap (λ k. get_or runs k 0) (sym e)
 
 -- the three numbers of a record, each where those before it passed
-module _ (s : List ℕ) (at tasks_n nodes_n : ℕ) (job : Job) (is_tasks : tasks job ≡ tasks_n) (is_nodes : nodes job ≡ nodes_n)
-    (w : Result Timing Refusal) (t : Result ℕ Refusal) (et : t ≡ resulted (value_fault s at 0 (tasks_n - 1)) (number_at s at)) where
+module _ (s : List ℕ) (at : ℕ) (times : RunTimes) (job : Job) (h : TimesOf job times)
+    (w : Result Timing Refusal) (t : Result ℕ Refusal) (et : t ≡ resulted (value_fault s at 0 (times.tasks - 1)) (number_at s at)) where
   task_answer : t ≡ resulted (value_fault s at 0 (tasks job - 1)) (number_at s at)
-  task_answer = subst (λ n. t ≡ resulted (value_fault s at 0 (n - 1)) (number_at s at)) (sym is_tasks) et
+  task_answer = subst (λ n. t ≡ resulted (value_fault s at 0 (n - 1)) (number_at s at)) (sym h.tasks) et
 
   abbrev One : Type 0
   One = Reads (timing_fault s job at) w (λ x. x ≡ timing_at s at)
@@ -46,11 +47,11 @@ module _ (s : List ℕ) (at tasks_n nodes_n : ℕ) (job : Job) (is_tasks : tasks
   timing_task q told = stopped w told (stop _ (is_fault t _ _ task_answer q))
 
   module _ (x : ℕ) (qt : t ≡ Ok x) (n : Result ℕ Refusal)
-      (en : n ≡ resulted (node_fault s (at + 4) nodes_n (task job x).run) (number_at s (at + 4))) where
+      (en : n ≡ resulted (node_fault s (at + 4) times.nodes (task job x).run) (number_at s (at + 4))) where
     node_answer : n ≡ resulted (node_fault s (at + 4) (nodes job) (task job (number_at s at)).run) (number_at s (at + 4))
     node_answer =
-        subst (λ p. n ≡ resulted (node_fault s (at + 4) p (task job (number_at s at)).run) (number_at s (at + 4))) (sym is_nodes)
-        (subst (λ y. n ≡ resulted (node_fault s (at + 4) nodes_n (task job y).run) (number_at s (at + 4))) (is_value t _ _ task_answer qt) en)
+        subst (λ p. n ≡ resulted (node_fault s (at + 4) p (task job (number_at s at)).run) (number_at s (at + 4))) (sym h.nodes)
+        (subst (λ y. n ≡ resulted (node_fault s (at + 4) times.nodes (task job y).run) (number_at s (at + 4))) (is_value t _ _ task_answer qt) en)
 
     pub timing_node : {r : Refusal} → n ≡ Err r → IsErrAnd w (λ e. e ≡ r) → One
     unfolding timing_fault
@@ -80,64 +81,64 @@ pub record SoFar (log : List ℕ) (job : Job) (k : ℕ) (w : Window) : Type 0 wh
   pub holds : Holding (record_at log) k w
 
 -- `read_log`, at an offset
-pub record LogTo (log : List ℕ) (tasks_n nodes_n : ℕ) (runs : List ℕ) (at : ℕ) (w : Window) : Type 0 where
+pub record LogTo (log : List ℕ) (times : RunTimes) (at : ℕ) (w : Window) : Type 0 where
   pub k : ℕ
   pub at_is : at ≡ 12 * k
   pub within : at ≤ length log
   pub formed : Formed w
-  pub read : (job : Job) → tasks job ≡ tasks_n → nodes job ≡ nodes_n → Runs job runs → SoFar log job k w
+  pub read : (job : Job) → TimesOf job times → SoFar log job k w
 
-pub log_start : (log : List ℕ) (tasks_n nodes_n : ℕ) (runs : List ℕ) → LogTo log tasks_n nodes_n runs 0 empty_window
-log_start log tasks_n nodes_n runs = record {
+pub log_start : (log : List ℕ) (times : RunTimes) → LogTo log times 0 empty_window
+log_start log times = record {
   k = 0;
   at_is = omega arith;
   within = omega arith;
   formed = empty_formed;
-  read = λ job p n h. record { clear = first_start (record_fault log job); holds = empty_holds (record_at log) };
+  read = λ job h. record { clear = first_start (record_fault log job); holds = empty_holds (record_at log) };
 }
 
-module _ (log : List ℕ) (tasks_n nodes_n : ℕ) (runs : List ℕ) (at : ℕ) (w : Window) (inv : LogTo log tasks_n nodes_n runs at w) where
+module _ (log : List ℕ) (times : RunTimes) (at : ℕ) (w : Window) (inv : LogTo log times at w) where
   -- the next record
-  module _ (x : Result Timing Refusal) (one : OneRead log tasks_n nodes_n runs at x) where
+  module _ (x : Result Timing Refusal) (one : OneRead log times at x) where
     -- is refused
     pub log_stop : {r : Refusal} (v : Result Window Refusal) → at < length log → x ≡ Err r → IsErrAnd v (λ e. e ≡ r)
-        → AllRead log tasks_n nodes_n runs v
+        → AllRead log times v
     unfolding log_fault records
-    log_stop {r} v below q told = λ job p n h.
+    log_stop {r} v below q told = λ job h.
         let inside : inv.k < records log = omega (arith, inv.at_is) in
-        let bad : record_fault log job inv.k ≡ some r = ap (timing_fault log job) (sym inv.at_is) ∙ reads_some (one job p n h) q in
-        stopped v told (first_found (record_fault log job) (records log) inv.k r inside (inv.read job p n h).clear bad)
+        let bad : record_fault log job inv.k ≡ some r = ap (timing_fault log job) (sym inv.at_is) ∙ reads_some (one job h) q in
+        stopped v told (first_found (record_fault log job) (records log) inv.k r inside (inv.read job h).clear bad)
 
     module _ {y : Timing} (q : x ≡ Ok y) where
       -- is none that is cut short: what is left behind the whole records is refused
-      pub log_cut : length log < at + 12 → (v : Result Window Refusal) → AllRead log tasks_n nodes_n runs v
+      pub log_cut : length log < at + 12 → (v : Result Window Refusal) → AllRead log times v
       unfolding timing_fault
-      log_cut cut v = λ job p n h.
-          let ticks = field_good log (at + 8) _ _ _ (or_else_r _ _ (or_else_r _ _ (reads_none (one job p n h) q))) in
+      log_cut cut v = λ job h.
+          let ticks = field_good log (at + 8) _ _ _ (or_else_r _ _ (or_else_r _ _ (reads_none (one job h) q))) in
           absurd (let z : ⊥ = omega (arith, ticks.room) in z)
 
       -- is taken in
-      pub log_more : at + 12 ≤ length log → (v : Window) → Takes w y v → LogTo log tasks_n nodes_n runs (at + 12) v
+      pub log_more : at + 12 ≤ length log → (v : Window) → Takes w y v → LogTo log times (at + 12) v
       log_more whole v push = record {
         k = inv.k + 1;
         at_is = omega (arith, inv.at_is);
         within = whole;
         formed = push.formed;
-        read = λ job p n h.
-            let r = one job p n h in
+        read = λ job h.
+            let r = one job h in
             let fine : record_fault log job inv.k ≡ none = ap (timing_fault log job) (sym inv.at_is) ∙ reads_none r q in
             let is : record_at log inv.k ≡ y = ap (timing_at log) (sym inv.at_is) ∙ sym (reads_value r q) in
             record {
-              clear = first_more (record_fault log job) inv.k (inv.read job p n h).clear fine;
-              holds = push.holds (record_at log) inv.k is (inv.read job p n h).holds;
+              clear = first_more (record_fault log job) inv.k (inv.read job h).clear fine;
+              holds = push.holds (record_at log) inv.k is (inv.read job h).holds;
             };
       }
 
-  pub log_done : length log ≤ at → AllRead log tasks_n nodes_n runs (Ok w)
+  pub log_done : length log ≤ at → AllRead log times (Ok w)
   unfolding log_fault records
-  log_done all = λ job p n h.
+  log_done all = λ job h.
       let e : inv.k ≡ records log = omega (arith, inv.at_is, inv.within) in
-      let r = inv.read job p n h in
+      let r = inv.read job h in
       finished
       (ap (λ m. first m (record_fault log job)) (sym e) ∙ r.clear)
       (inv.formed, subst (λ m. Holding (record_at log) m w) e r.holds)

@@ -6,6 +6,7 @@ use Rattle.reader.specs.declared.refusal.Refusal.{Refusal}
 use Rattle.reader.specs.Limits.{max_nodes, max_tasks}
 use Rattle.reader.specs.Entries.{nodes, tasks, task, run, no_task}
 use Rattle.reader.specs.Reads.{Reads}
+use Rattle.history.specs.declared.times.RunTimes.{RunTimes}
 use Rattle.history.specs.declared.window.Timing.{Timing}
 use Rattle.history.specs.declared.window.Window.{Window}
 use Rattle.history.specs.Log.{timing_at, timing_fault, records, record_at, log_fault}
@@ -17,16 +18,20 @@ use Rattle.history.specs.Ring.{Formed, Holding}
 pub record Runs (job : Job) (runs : List ℕ) : Type 0 where
   pub is : (j n : ℕ) → j < max_tasks → n < max_nodes → get_or runs (cell_of j n) 0 ≡ run job j n
 
--- of jobs of n tasks and p nodes, and of the run times in a row, the record at an offset
-abbrev pub OneRead : List ℕ → ℕ → ℕ → List ℕ → ℕ → Result Timing Refusal → Type 0
-OneRead log n p runs at result =
-    (job : Job) → tasks job ≡ n → nodes job ≡ p → Runs job runs → Reads (timing_fault log job at) result (λ x. x ≡ timing_at log at)
+-- and how many tasks and nodes it has
+pub record TimesOf (job : Job) (times : RunTimes) : Type 0 where
+  pub tasks : tasks job ≡ times.tasks
+  pub nodes : nodes job ≡ times.nodes
+  pub runs : Runs job times.runs
+
+-- of every job of these run times, the record at an offset
+abbrev pub OneRead : List ℕ → RunTimes → ℕ → Result Timing Refusal → Type 0
+OneRead log times at result = (job : Job) → TimesOf job times → Reads (timing_fault log job at) result (λ x. x ≡ timing_at log at)
 
 -- and the whole log
-abbrev pub AllRead : List ℕ → ℕ → ℕ → List ℕ → Result Window Refusal → Type 0
-AllRead log n p runs result =
-    (job : Job) → tasks job ≡ n → nodes job ≡ p → Runs job runs
-    → Reads (log_fault log job) result (λ w. Formed w × Holding (record_at log) (records log) w)
+abbrev pub AllRead : List ℕ → RunTimes → Result Window Refusal → Type 0
+AllRead log times result =
+    (job : Job) → TimesOf job times → Reads (log_fault log job) result (λ w. Formed w × Holding (record_at log) (records log) w)
 
 -- the time of task j on node n, of ticks seen that stand in a list, for a task of these run times; and for a job
 abbrev pub row_time : List ℕ → List ℕ → ℕ → ℕ → ℕ

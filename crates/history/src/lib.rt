@@ -4,6 +4,7 @@
 
 pub mod log;
 pub mod renewed;
+pub mod times;
 pub mod window;
 
 ghost use Rattle.std.specs.Prelude.{◌≡◌};

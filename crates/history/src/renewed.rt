@@ -8,25 +8,14 @@ ghost use Rattle.reader.specs.Sound.{Sound};
 ghost use Rattle.writer.specs.Puts.{Puts};
 ghost use Rattle.history.specs.Log.{log_fault};
 ghost use Rattle.history.specs.Times.{or_else_run, log_time, renewed_task, renewed, table_numbers, table_length};
-ghost use Rattle.history.specs.Promise.{Runs, row_time, table_time, new_task};
+ghost use Rattle.history.specs.Promise.{row_time, table_time, new_task};
 
 use crate::log::read_log;
+use crate::times::RunTimes;
 use crate::window::{Window, largest};
 use reader::job::{Job, Task};
 use reader::refusal::Refusal;
 use writer::put_run;
-
-// The job's run times in one row, task by task.
-fn runs_of(job: &Job) -> [u32; Window::CELLS]
-    ensures { Runs job.now result }
-{
-    let mut runs = [0u32; Window::CELLS];
-    for (j, task) in job.tasks.iter().enumerate() {
-        let start = Job::MAX_NODES * j;
-        runs[start..start + Job::MAX_NODES].copy_from_slice(&task.run);
-    }
-    runs
-}
 
 // A time seen, or the job's where there is none.
 fn time_of(seen: u32, run: u32) -> u32
@@ -90,8 +79,7 @@ pub fn renew(job: &Job, log: &[u8]) -> Result<Job, Refusal>
     requires { Sound job.now }
     ensures { Reads (log_fault log.now job.now) result (λ new. new ≡ renewed job.now (log_time job.now log.now)) }
 {
-    let runs = runs_of(job);
-    let window = read_log(log, job.task_count as usize, job.node_count as usize, &runs)?;
+    let window = read_log(log, &RunTimes::of(job))?;
     let seen = largest(&window);
     Ok(with_times(job, &seen))
 }

@@ -5,7 +5,7 @@ use Rattle.history.proofs.LogLaws.{LogTo}
 use Rattle.history.proofs.log.read_log.Given as goal
 
 abbrev pub invariant-loop-at : goal.invariant-loop-at
-invariant-loop-at l = LogTo l.log l.tasks l.nodes l.runs l.at l.window
+invariant-loop-at l = LogTo l.log l.times l.at l.window
 
 abbrev pub decreases-loop-at : goal.decreases-loop-at
 decreases-loop-at l = length l.log - l.at

@@ -12,22 +12,22 @@ returns-in_err-node-clause-value c =
     λ job h. handed _ _ c.from_residual.ensures.1 (bad_number _ _ _ _ (is_fault _ _ _ c.field.ensures c.in_err-node.was))
 
 pub cell_of-p-requires : goal.cell_of-p-requires
-cell_of-p-requires c = (c.requires.3, omega (arith, is_good _ _ _ _ _ _ c.field.ensures c.in_ok-node.was))
+cell_of-p-requires c = (c.requires.1, omega (arith, is_good _ _ _ _ _ _ c.field.ensures c.in_ok-node.was, c.args.times.now.nodes_most))
 
-pub returns-then-runs-p-eq0-clause-value : goal.returns-then-runs-p-eq0-clause-value
-returns-then-runs-p-eq0-clause-value c =
+pub returns-then-times-p-eq0-clause-value : goal.returns-then-times-p-eq0-clause-value
+returns-then-times-p-eq0-clause-value c =
     let e = c.field.ensures in
     let q = c.in_ok-node.was in
     λ job h. node_unable _ _ _ _ _ (is_none _ _ _ e q) (is_value _ _ _ e q)
-    (run_is job _ _ _ _ h c.requires.3 (omega (arith, is_good _ _ _ _ _ _ e q)) c.cell_of-p.ensures.0 ∙ c.if-runs-p-eq0.true)
+    (run_is job _ _ _ _ h.runs c.requires.1 (omega (arith, is_good _ _ _ _ _ _ e q, c.args.times.now.nodes_most)) c.cell_of-p.ensures.0 ∙ c.if-times-p-eq0.true)
 
 pub returns-clause-by_index : goal.returns-clause-by_index
-returns-clause-by_index c = omega (arith, is_good _ _ _ _ _ _ c.field.ensures c.in_ok-node.was)
+returns-clause-by_index c = omega (arith, is_good _ _ _ _ _ _ c.field.ensures c.in_ok-node.was, c.args.times.now.nodes_most)
 
 pub returns-clause-value : goal.returns-clause-value
 returns-clause-value c =
     let e = c.field.ensures in
     let q = c.in_ok-node.was in
     λ job h. node_able _ _ _ _ _ (is_none _ _ _ e q) (is_value _ _ _ e q)
-    (λ z. c.if-runs-p-eq0.false
-    (sym (run_is job _ _ _ _ h c.requires.3 (omega (arith, is_good _ _ _ _ _ _ e q)) c.cell_of-p.ensures.0) ∙ z))
+    (λ z. c.if-times-p-eq0.false
+    (sym (run_is job _ _ _ _ h.runs c.requires.1 (omega (arith, is_good _ _ _ _ _ _ e q, c.args.times.now.nodes_most)) c.cell_of-p.ensures.0) ∙ z))
