@@ -8,14 +8,14 @@ use lib.Dec.{eqb}
 use lib.ListN.{get_or, replicate}
 use native.Mathlib.Omega.{arith}
 use Rattle.reader.specs.declared.job.Job.{Job}
-use Rattle.std.specs.Prelude.{Result, Ok, Err, IsErrAnd}
+use Rattle.std.specs.Prelude.{Result, Ok}
 use Rattle.reader.specs.declared.refusal.Refusal.{Refusal}
 use Rattle.reader.specs.Tests.{◌and◌}
 use Rattle.reader.specs.Limits.{max_nodes, max_tasks, max_time}
 use Rattle.reader.specs.Entries.{nodes, tasks, task, run, no_task, blank_task}
 use Rattle.reader.specs.Reads.{Reads}
 use Rattle.reader.specs.Sound.{Sound}
-use Rattle.reader.proofs.Chain.{stopped, finished, reads_none, reads_some, reads_value}
+use Rattle.reader.proofs.Chain.{finished, reads_none, reads_value}
 use Rattle.reader.proofs.FillLaws.{fill_same, filled_at}
 use Rattle.writer.proofs.FilledJob.{RunFilled, Filled}
 use Rattle.history.specs.declared.window.Timing.{Timing}
@@ -127,19 +127,11 @@ module _ (log : List ℕ) (job : Job) (sound : Sound job) (fine : log_fault log 
         ap (λ t. or_else_run t (run job j n)) (has.is (cell_of j n))
         ∙ table_afresh (record_at log) (records log) w holds nodes_low job j n (omega (arith, sound.nodes_most)))
 
-module _ (log : List ℕ) (job : Job) (read : Result Window Refusal)
-    (reads : Reads (log_fault log job) read (λ w. Formed w × Holding (record_at log) (records log) w)) where
-  abbrev Renewed : Result Job Refusal → Type 0
-  Renewed result = Reads (log_fault log job) result (λ new. new ≡ renewed job (log_time job log))
-
-  pub renew_refused : {r : Refusal} (v : Result Job Refusal) → read ≡ Err r → IsErrAnd v (λ e. e ≡ r) → Renewed v
-  renew_refused v q told = stopped v told (reads_some reads q)
-
-  module _ {w : Window} (q : read ≡ Ok w) where
-    pub window_formed : Formed w
-    window_formed = (reads_value reads q).0
-
-    pub renew_done : Sound job → (seen : List ℕ) → Seen w seen → (new : Job) → new ≡ renewed job (table_time seen job) → Renewed (Ok new)
-    renew_done sound seen has new e =
-        let fine = reads_none reads q in
-        finished fine (e ∙ renewed_by log job sound fine w (reads_value reads q).1 seen has)
+-- and the job with them
+pub renew_done : (log : List ℕ) (job : Job) (read : Result Window Refusal) {w : Window}
+    → Reads (log_fault log job) read (λ w. Formed w × Holding (record_at log) (records log) w) → read ≡ Ok w → Sound job
+    → (seen : List ℕ) → Seen w seen → (new : Job) → new ≡ renewed job (table_time seen job)
+    → Reads (log_fault log job) (Ok new) (λ x. x ≡ renewed job (log_time job log))
+renew_done log job read {w} reads q sound seen has new e =
+    let fine = reads_none reads q in
+    finished fine (e ∙ renewed_by log job sound fine w (reads_value reads q).1 seen has)

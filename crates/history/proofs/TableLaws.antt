@@ -1,20 +1,17 @@
 -- Laws of a job's run times: in one row, in a job that has others, and as the bytes of a table.
-use Prim.Native.Nat.{ℕ, zero, suc, ◌+◌, ◌-◌, ◌*◌, ◌≤◌, ◌<◌}
-use mathlib.Core.List.{List, [], ◌∷◌, ◌++◌}
-use mathlib.Core.Path.{◌≡◌, refl, sym, ap, ◌∙◌, subst}
-use lib.ListN.{get_or, set, length, replicate, take, drop, length-take, length-drop, length-replicate}
-use lib.Seq.{length-take-le}
-use Rattle.std.proofs.lemmas.List.{get_or-take, get_or_append_left, get_or-append_right}
-use borrow.Rule.Slice.PartMut.{put_mid, same_len_mid}
-use native.Mathlib.Nat.{mul-suc, mul-le-mul_left}
+use Prim.Native.Nat.{ℕ, zero, suc, ◌+◌, ◌*◌, ◌≤◌, ◌<◌}
+use mathlib.Core.List.{List, [], ◌∷◌}
+use mathlib.Core.Path.{◌≡◌, refl, ap, ◌∙◌, subst}
+use lib.ListN.{get_or, set, length, replicate, take}
+use Rattle.std.proofs.lemmas.List.{get_or-take}
+use native.Mathlib.Nat.{mul-suc}
 use native.Mathlib.Numerals.{add-one}
 use native.Mathlib.Omega.{arith}
 use Rattle.reader.specs.declared.job.Job.{Job}
 use Rattle.reader.specs.declared.job.Task.{Task}
 use Rattle.reader.specs.First.{fill}
 use Rattle.reader.specs.Limits.{max_nodes, max_tasks}
-use Rattle.reader.specs.Entries.{nodes, tasks, links, task, run, no_task, blank_task}
-use Rattle.reader.proofs.TestLaws.{below_suc}
+use Rattle.reader.specs.Entries.{nodes, tasks, links, run, no_task, blank_task}
 use Rattle.reader.proofs.FillLaws.{filled_more}
 use Rattle.writer.specs.Write.{flat}
 use Rattle.writer.specs.Puts.{Puts, Rows}
@@ -22,7 +19,7 @@ use Rattle.writer.proofs.PutLaws.{puts_then, rows_none}
 use Rattle.replay.proofs.PackLaws.{length_flat}
 use Rattle.history.specs.Times.{or_else_run, table_numbers, table_length, renewed_task, renewed}
 use Rattle.history.specs.Window.{cell_count, cell_of}
-use Rattle.history.specs.Promise.{row_time, table_time, new_task, Runs}
+use Rattle.history.specs.Promise.{row_time, table_time, new_task}
 
 -- `time_of`
 pub time_none : (seen run : ℕ) → seen ≡ 0 → run ≡ or_else_run seen run
@@ -34,39 +31,10 @@ unfolding or_else_run
 time_seen zero run h = absurd (h refl)
 time_seen (suc t) run h = refl
 
--- `runs_of`: a list has the run times of the first j tasks
+-- `RunTimes::of`: a list has the run times of the first j tasks
 pub record RunsTo (job : Job) (j : ℕ) (runs : List ℕ) : Type 0 where
   pub size : length runs ≡ cell_count
   pub is : (i n : ℕ) → i < j → n < max_nodes → get_or runs (cell_of i n) 0 ≡ run job i n
-
-module _ (job : Job) where
-  pub runs_start : RunsTo job 0 (replicate cell_count 0)
-  runs_start = record { size = length-replicate {A = ℕ} cell_count 0; is = λ i n p q. absurd (let z : ⊥ = omega arith in z) }
-
-  -- those of one task more, copied behind them
-  pub runs_more : (j k : ℕ) (runs row : List ℕ) → j < max_tasks → k ≡ max_nodes → row ≡ (task job j).run
-      → length row ≡ length (take k (drop (max_nodes * j) runs)) → RunsTo job j runs → RunsTo job (j + 1) (put_mid (max_nodes * j) k runs row)
-  runs_more j k runs row h e same long inv =
-      let a = max_nodes * j in
-      let rest = row ++ drop k (drop a runs) in
-      let front : length (take a runs) ≡ a = length-take-le a runs (omega (arith, inv.size)) in
-      let size : length row ≡ max_nodes = long ∙ simp (length-take, length-drop) (omega (arith, inv.size)) in
-      record {
-        size = same_len_mid a k runs row long ∙ inv.size;
-        is = λ i n p q.
-            below_suc i j (rw add-one at p)
-            (λ lt.
-            get_or_append_left (take a runs) rest 0 (cell_of i n) (omega (arith, front))
-            ∙ get_or-take a runs (cell_of i n) 0 (omega arith) ∙ inv.is i n lt q)
-            (λ last.
-            get_or-append_right (take a runs) rest a (cell_of i n) 0 front (omega (arith, last))
-            ∙ ap (λ m. get_or rest m 0) (let z : cell_of i n - a ≡ n = omega (arith, last) in z)
-            ∙ get_or_append_left row _ 0 n (omega (arith, size))
-            ∙ ap (λ l. get_or l n 0) (same ∙ ap (λ m. (task job m).run) (sym last)));
-      }
-
-  pub runs_done : (j : ℕ) (runs : List ℕ) → max_tasks ≤ j → RunsTo job j runs → Runs job runs
-  runs_done j runs all inv = record { is = λ i n p q. inv.is i n (omega arith) q }
 
 -- `new_task`
 pub row_done : (p n : ℕ) (time : ℕ → ℕ) (t : Task) (run : List ℕ) → n ≡ p → run ≡ fill n time (replicate max_nodes 0)
@@ -82,10 +50,6 @@ module _ (seen : List ℕ) (p : ℕ) (list : List Task) where
       → set d j t ≡ fill (j + 1) (new_task seen p list) (replicate max_tasks blank_task)
   unfolding new_task
   tasks_more d j t e h = filled_more (new_task seen p list) (replicate max_tasks blank_task) d j t e h
-
-pub tasks_done : (f : ℕ → Task) (n j : ℕ) (list : List Task) → j ≡ n → list ≡ fill j f (replicate max_tasks blank_task)
-    → list ≡ fill n f (replicate max_tasks blank_task)
-tasks_done f n j list e is = is ∙ ap (λ m. fill m f (replicate max_tasks blank_task)) e
 
 pub job_renewed : (job : Job) (seen : List ℕ) (list : List Task)
     → list ≡ fill (tasks job) (new_task seen (nodes job) job.tasks) (replicate max_tasks blank_task)
@@ -119,9 +83,6 @@ pub table_start : (job : Job) (out : List ℕ) → TableTo job out 0 out 0
 table_start job out = record { within = omega arith; at_is = omega arith; puts = (rows_none {w = 0} out 0).puts }
 
 module _ (job : Job) (before : List ℕ) (j : ℕ) (out : List ℕ) (at : ℕ) (inv : TableTo job before j out at) where
-  pub table_room : j < tasks job → table_length job ≤ length before → at + 4 * nodes job ≤ length out
-  table_room h room = omega (arith, mul-suc (nodes job) j, mul-le-mul_left (nodes job) h, inv.at_is, inv.puts.size)
-
   pub table_more : (d : List ℕ) (end : ℕ) → j < tasks job
       → Rows (λ n. get_or (get_or (take (tasks job) job.tasks) j no_task).run n 0 ∷ []) 4 out at (nodes job) d end → TableTo job before (j + 1) d end
   unfolding flat

@@ -6,9 +6,6 @@ use Rattle.history.proofs.log.read_log.Goals as goal
 pub loop-at-init : goal.loop-at-init
 loop-at-init c = rw c.empty-window.ensures (log_start _ _)
 
-pub overflow_add-at : goal.overflow_add-at
-overflow_add-at c = omega (arith, c.loop-at.invariant.within)
-
 pub returns-in_err-read_timing : goal.returns-in_err-read_timing
 returns-in_err-read_timing c =
     log_stop _ _ _ _ c.loop-at.invariant _ c.read_timing.ensures.one_read _ (omega arith) c.in_err-read_timing.was c.from_residual.ensures.1

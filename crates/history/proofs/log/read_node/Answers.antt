@@ -18,8 +18,9 @@ pub returns-then-times-p-eq0-clause-value : goal.returns-then-times-p-eq0-clause
 returns-then-times-p-eq0-clause-value c =
     let e = c.field.ensures in
     let q = c.in_ok-node.was in
-    λ job h. node_unable _ _ _ _ _ (is_none _ _ _ e q) (is_value _ _ _ e q)
-    (run_is job _ _ _ _ h.runs c.requires.1 (omega (arith, is_good _ _ _ _ _ _ e q, c.args.times.now.nodes_most)) c.cell_of-p.ensures.0 ∙ c.if-times-p-eq0.true)
+    λ job h.
+    let is = run_is job _ _ _ _ h.runs c.requires.1 (omega (arith, is_good _ _ _ _ _ _ e q, c.args.times.now.nodes_most)) c.cell_of-p.ensures.0 in
+    node_unable _ _ _ _ _ (is_none _ _ _ e q) (is_value _ _ _ e q) (is ∙ c.if-times-p-eq0.true)
 
 pub returns-clause-by_index : goal.returns-clause-by_index
 returns-clause-by_index c = omega (arith, is_good _ _ _ _ _ _ c.field.ensures c.in_ok-node.was, c.args.times.now.nodes_most)
@@ -28,6 +29,6 @@ pub returns-clause-value : goal.returns-clause-value
 returns-clause-value c =
     let e = c.field.ensures in
     let q = c.in_ok-node.was in
-    λ job h. node_able _ _ _ _ _ (is_none _ _ _ e q) (is_value _ _ _ e q)
-    (λ z. c.if-times-p-eq0.false
-    (sym (run_is job _ _ _ _ h.runs c.requires.1 (omega (arith, is_good _ _ _ _ _ _ e q, c.args.times.now.nodes_most)) c.cell_of-p.ensures.0) ∙ z))
+    λ job h.
+    let is = run_is job _ _ _ _ h.runs c.requires.1 (omega (arith, is_good _ _ _ _ _ _ e q, c.args.times.now.nodes_most)) c.cell_of-p.ensures.0 in
+    node_able _ _ _ _ _ (is_none _ _ _ e q) (is_value _ _ _ e q) (λ z. c.if-times-p-eq0.false (sym is ∙ z))

@@ -1,5 +1,4 @@
 -- What the loop of `history::renewed::new_tasks` keeps.
-use Prim.Native.Nat.{◌≤◌}
 use mathlib.Core.Path.{◌≡◌}
 use lib.ListN.{replicate}
 use Rattle.reader.specs.First.{fill}
@@ -9,4 +8,4 @@ use Rattle.history.specs.Promise.{new_task}
 use Rattle.history.proofs.renewed.new_tasks.Given as goal
 
 abbrev pub invariant-loop-j : goal.invariant-loop-j
-invariant-loop-j l = (l.j ≤ l.count) × (l.list ≡ fill l.j (new_task l.seen l.nodes l.tasks) (replicate max_tasks blank_task))
+invariant-loop-j l = l.list ≡ fill l.j (new_task l.seen l.nodes l.tasks) (replicate max_tasks blank_task)

@@ -2,8 +2,5 @@
 use Rattle.history.proofs.TableLaws.{job_renewed}
 use Rattle.history.proofs.renewed.with_times.Goals as goal
 
-pub new_tasks-tasks-requires : goal.new_tasks-tasks-requires
-new_tasks-tasks-requires c = (c.requires.tasks_most, c.requires.nodes_most)
-
 pub returns : goal.returns
 returns c = job_renewed _ _ _ c.new_tasks-tasks.ensures
