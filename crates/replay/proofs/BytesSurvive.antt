@@ -17,7 +17,7 @@ use Rattle.rules.specs.Survival.{Survives}
 use Rattle.replay.specs.States.{state, number_of, outcome}
 use Rattle.replay.specs.Outcomes.{numbers, run_bytes}
 use Rattle.replay.specs.Survival.{BytesTell, OneFinished, BytesSurvive}
-use Rattle.replay.proofs.StateLaws.{two_finished, two_not, number_is}
+use Rattle.replay.proofs.StateLaws.{two_finished, two_not, number_is, finish_number}
 use Rattle.replay.proofs.PackLaws.{row_number}
 
 state_small : (s : State) → number_of (state s) < 2 ^ 32
@@ -45,7 +45,9 @@ module _ (job : Job) (t : ℕ → Row) (x : ℕ → TaskRun) where
   bytes_tell small = record {
     primary = λ j p. number_there j p 0 (12 * j) (omega arith) (omega arith) (state_small (x j).primary) ∙ number_is (x j).primary;
     backup = λ j p. number_there j p 1 (12 * j + 4) (omega arith) (omega arith) (state_small (x j).backup) ∙ number_is (x j).backup;
-    finish = λ j p. number_there j p 2 (12 * j + 8) (omega arith) (omega arith) (small j p);
+    finish = λ j p.
+        let e = finish_number (t j) (x j) in
+        number_there j p 2 (12 * j + 8) (omega arith) (omega arith) (rw e (small j p)) ∙ e;
   }
 
 -- the numbers at a buffer's front are those of what stands there

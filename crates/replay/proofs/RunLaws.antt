@@ -35,8 +35,9 @@ use Rattle.replay.specs.Progress.{zeros, started, sent, stored}
 use Rattle.reader.proofs.FirstLaws.{every_rest}
 use Rattle.reader.proofs.FillLaws.{filled_more, filled_at}
 use Rattle.replay.proofs.LinkOrder.{ahead}
+use Rattle.replay.proofs.StateLaws.{finish_number}
 use Rattle.replay.proofs.InputLaws.{sender, sent_arrives, sent_most, sent_below}
-use Rattle.replay.proofs.PairLaws.{once_finished, run_pair, pair, primary_is, backup_is, detected_is, primary_ends_lem, backup_ends_lem, finish_most}
+use Rattle.replay.proofs.PairLaws.{once_finished, run_pair, pair, primary_is, backup_is, detected_is, finish_most}
 use Rattle.replay.proofs.ReadyLaws.{Tested, tested_start, tested_more}
 
 -- the test of link m for task t: its result is there for copy c of t
@@ -118,7 +119,8 @@ module _ (job : Job) (plan : Plan) (times : Times) (loss : Loss) (all : Sound jo
       pub sent_fits : SumFits (get_or r.at i 0 + send job (get_or r.node i 0)) (link job k).delay
       unfolding outcome
       sent_fits =
-          let most = sent_most (replayed job plan times loss i) (omega (arith, finish_most job plan times all i i_below (R i))) in
+          let finish = finish_most job plan times all i i_below (R i) in
+          let most = sent_most (replayed job plan times loss i) (rw (finish_number (T i) (R i)) (omega (arith, finish))) in
           rw at_is (omega (arith, most, sound.send_most _ node_below, sound.delay_most k more))
 
       abbrev result : Outgoing
@@ -135,7 +137,6 @@ module _ (job : Job) (plan : Plan) (times : Times) (loss : Loss) (all : Sound jo
           (rw (ea, at_is, node_is, ← en, eq-eqb to to refl)
           (sent_arrives job (link job k) (T i) (place plan i) (R i) (c to)
           (ap (λ c. c.node) (primary_is job plan times all i i_below)) (ap (λ c. c.node) (backup_is job plan times all i i_below))
-          (primary_ends_lem job plan times all i i_below).0 (backup_ends_lem job plan times all i i_below).0
           (once_finished job (rows job plan) T loss R i (R i) (run_own i i_below)) starts))
           (λ t away. rw (ne_eqb to t away))
 

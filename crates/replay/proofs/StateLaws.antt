@@ -4,18 +4,20 @@ use mathlib.Core.Path.{◌≡◌, refl, sym, ◌∙◌}
 use native.Mathlib.Omega.{arith}
 use Rattle.reader.specs.declared.job.Job.{Job}
 use Rattle.reader.specs.Tests.{◌and◌}
-use Rattle.reader.proofs.TestLaws.{and_if, clash}
+use Rattle.reader.proofs.TestLaws.{and_if, clash, split}
 use Rattle.rules.specs.declared.Copy.{Copy}
 use Rattle.rules.specs.declared.Loss.{Loss}
 use Rattle.rules.specs.Replay as rules
-use Rattle.rules.specs.Replay.{not_started, cut, finished, is_finished, state_number, started, attempt, finish_of}
+use Rattle.rules.specs.Replay.{not_started, cut, finished, is_finished, state_number, TaskRun, attempt, finish_of}
+use Rattle.rules.specs.Rules.{Row}
+use Rattle.std.specs.Prelude.{Some, None, unwrap_or}
 use Rattle.replay.specs.declared.states.Pair.{Pair}
 use Rattle.replay.specs.declared.states.Outcome.{Outcome}
 use Rattle.replay.specs.declared.states.State.{State}
 use Rattle.replay.specs.declared.states.State.TheVariants.{NotStarted, Cut, Finished}
 use denote.Enum.Bare.{sameb}
 use Rattle.replay.specs.contracts.states.State.{the_type}
-use Rattle.replay.specs.States.{state, number_of, run_fed, pair_row, outcome}
+use Rattle.replay.specs.States.{state, number_of, run_fed, pair_row, finish_in, outcome}
 
 -- states by their numbers
 pub two_finished : (s : rules.State) → is_finished s ≡ true → state_number s ≡ 2
@@ -33,6 +35,14 @@ pub number_is : (s : rules.State) → number_of (state s) ≡ state_number s
 number_is not_started = refl
 number_is cut = refl
 number_is finished = refl
+
+-- the finish, as it is written
+pub finish_number : (r : Row) (x : TaskRun) → unwrap_or (finish_in r x) 0 ≡ finish_of r x
+unfolding finish_of
+finish_number r x =
+    split (is_finished x.primary)
+    (λ e. rw e)
+    (λ e. split (is_finished x.backup) (λ f. rw (e, f)) (λ f. rw (e, f)))
 
 finished_is : (s : rules.State) → state s ≡ Finished → s ≡ finished
 finished_is not_started e = cc
@@ -66,8 +76,8 @@ module _ (job : Job) (loss : Loss) (fed fed_backup : Bool) (x : Pair) (a : State
   abbrev told : Outcome
   told = outcome (pair_row x) (run_fed job loss fed fed_backup x)
 
-  pub settle_primary : a ≡ Finished → ◌≡◌ {A = Outcome} (record { primary = a; backup = NotStarted; finish = x.primary.finish }) told
-  unfolding outcome run_fed finish_of
+  pub settle_primary : a ≡ Finished → ◌≡◌ {A = Outcome} (record { primary = a; backup = NotStarted; finish = Some x.primary.finish }) told
+  unfolding outcome run_fed
   settle_primary done = rw (done, finished_is first (sym e ∙ done), barred job loss (x.detected and fed_backup) x.backup)
 
   -- the primary did not finish: the backup may start, or may not
@@ -83,10 +93,10 @@ module _ (job : Job) (loss : Loss) (fed fed_backup : Bool) (x : Pair) (a : State
     called_on = rw (unfinished, and_if true (x.detected and fed_backup) refl, ← m)
 
     module _ (s : State) (h : s ≡ state second) where
-      pub settle_backup : s ≡ Finished → ◌≡◌ {A = Outcome} (record { primary = a; backup = s; finish = x.backup.finish }) told
-      unfolding outcome finish_of
+      pub settle_backup : s ≡ Finished → ◌≡◌ {A = Outcome} (record { primary = a; backup = s; finish = Some x.backup.finish }) told
+      unfolding outcome
       settle_backup done = rw (called_on, unfinished, finished_is second (sym h ∙ done), e, done)
 
-      pub settle_neither : (s ≡ Finished → ⊥) → ◌≡◌ {A = Outcome} (record { primary = a; backup = s; finish = 0 }) told
-      unfolding outcome finish_of
+      pub settle_neither : (s ≡ Finished → ⊥) → ◌≡◌ {A = Outcome} (record { primary = a; backup = s; finish = None }) told
+      unfolding outcome
       settle_neither neither = rw (called_on, unfinished, not_finished second (λ q. neither (h ∙ q)), e, h)

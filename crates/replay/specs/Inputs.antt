@@ -1,5 +1,5 @@
 -- When a task's result goes out, and from where.
-use Rattle.std.specs.Prelude.{ℕ, cond, eqb}
+use Rattle.std.specs.Prelude.{ℕ, unwrap_or}
 use Rattle.reader.specs.declared.plan.Place.{Place}
 use Rattle.replay.specs.declared.states.Outcome.{Outcome}
 use Rattle.replay.specs.declared.states.State.{State}
@@ -11,7 +11,7 @@ never = 4_000_000
 
 -- of a task of outcome o: the finish of its finished copy
 unfoldable pub sent_at : Outcome → ℕ
-sent_at o = cond (eqb o.finish 0) never o.finish
+sent_at o = unwrap_or o.finish never
 
 -- of a task at place x whose primary ended so: the node of the finished copy; without one it says nothing
 abbrev pub node_of : State → Place → ℕ

@@ -1,5 +1,5 @@
 -- What replay tells of a job and a plan: three numbers for each task, and their bytes.
-use Rattle.std.specs.Prelude.{ℕ, List, [], ◌∷◌, get_or, replicate}
+use Rattle.std.specs.Prelude.{ℕ, List, [], ◌∷◌, get_or, replicate, None, unwrap_or}
 use Rattle.reader.specs.declared.job.Job.{Job}
 use Rattle.reader.specs.declared.plan.Plan.{Plan}
 use Rattle.reader.specs.First.{fill}
@@ -21,14 +21,14 @@ abbrev pub replayed : Job → Plan → Times → Loss → ℕ → Outcome
 replayed job plan times loss j = outcome (ended_rows job plan times j) (replay_times job plan times loss j)
 
 abbrev pub no_outcome : Outcome
-no_outcome = record { primary = NotStarted; backup = NotStarted; finish = 0 }
+no_outcome = record { primary = NotStarted; backup = NotStarted; finish = None }
 
 -- those of every task of the job
 unfoldable pub outcomes : Job → Plan → Times → Loss → Outcomes
 outcomes job plan times loss = record { of = fill (tasks job) (replayed job plan times loss) (replicate max_tasks no_outcome) }
 
 abbrev pub numbers : Outcome → List ℕ
-numbers o = number_of o.primary ∷ number_of o.backup ∷ o.finish ∷ []
+numbers o = number_of o.primary ∷ number_of o.backup ∷ unwrap_or o.finish 0 ∷ []
 
 -- the bytes of the first n of them
 unfoldable pub outcome_bytes : Outcomes → ℕ → List ℕ

@@ -1,5 +1,5 @@
 -- One task on its own: its copies, its run and the numbers of that run.
-use Rattle.std.specs.Prelude.{ℕ, ◌+◌, ◌≤◌, ◌<◌, Bool, false, not, ◌≡◌, leb, get_or}
+use Rattle.std.specs.Prelude.{ℕ, ◌+◌, ◌≤◌, ◌<◌, Bool, false, not, cond, ◌≡◌, leb, get_or, Option, Some, None}
 use Rattle.reader.specs.declared.job.Job.{Job}
 use Rattle.reader.specs.declared.job.Node.{Node}
 use Rattle.reader.specs.declared.job.Task.{Task}
@@ -12,7 +12,7 @@ use Rattle.rules.specs.declared.Took.{Took}
 use Rattle.rules.specs.Copies.{domain}
 use Rattle.rules.specs.Rules.{Row}
 use Rattle.rules.specs.Replay as rules
-use Rattle.rules.specs.Replay.{TaskRun, not_started, cut, finished, is_finished, attempt, finish_of}
+use Rattle.rules.specs.Replay.{TaskRun, not_started, cut, finished, is_finished, attempt}
 use Rattle.replay.specs.declared.states.Pair.{Pair}
 use Rattle.replay.specs.declared.states.State.{State}
 use Rattle.replay.specs.declared.states.State.TheVariants.{NotStarted, Cut, Finished}
@@ -68,9 +68,13 @@ run_fed job loss fed fed_backup x =
 abbrev pub run_from : Job → Loss → ℕ → ℕ → Pair → TaskRun
 run_from job loss ready ready_backup x = run_fed job loss (leb ready x.primary.start) (leb ready_backup x.backup.start) x
 
+-- the finish of the finished copy, if there is one
+abbrev pub finish_in : Row → TaskRun → Option ℕ
+finish_in r x = cond (is_finished x.primary) (Some r.primary.finish) (cond (is_finished x.backup) (Some r.backup.finish) None)
+
 -- 'Per task replay writes three numbers: primary and backup (0 not started, 1 cut, 2 finished), and the finish of the finished copy (0 if none).'
 unfoldable pub outcome : Row → TaskRun → Outcome
-outcome r x = record { primary = state x.primary; backup = state x.backup; finish = finish_of r x }
+outcome r x = record { primary = state x.primary; backup = state x.backup; finish = finish_in r x }
 
 -- the row of two copies; replay asks nothing of its fault set
 abbrev pub pair_row : Pair → Row

@@ -12,7 +12,7 @@ pub const NEVER: u32 = 4_000_000;
 pub fn sent_at(o: Outcome) -> u32
     ensures { result ≡ sent_at o }
 {
-    if o.finish == 0 { NEVER } else { o.finish }
+    o.finish.unwrap_or(NEVER)
 }
 
 // The node of the finished copy.

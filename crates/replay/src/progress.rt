@@ -28,7 +28,7 @@ impl Progress {
         let none = Outcome {
             primary: State::NotStarted,
             backup: State::NotStarted,
-            finish: 0,
+            finish: None,
         };
         Progress {
             of: [none; Job::MAX_TASKS],

@@ -35,12 +35,12 @@ impl From<State> for u32 {
     }
 }
 
-// What replay writes of a task: the states of its copies, and the finish of the finished copy, or 0.
+// What replay tells of a task: the states of its copies, and the finish of the finished copy, if there is one.
 #[derive(Clone, Copy)]
 pub struct Outcome {
     pub primary: State,
     pub backup: State,
-    pub finish: u32,
+    pub finish: Option<u32>,
 }
 
 // The copies of a task at its place, as they end after the ticks in `took`. `own` is the primary's node, `other` the backup's. Whether the loss
@@ -103,15 +103,15 @@ pub fn settle(x: Pair, ready: u32, ready_backup: u32, loss: Loss) -> Outcome
         return Outcome {
             primary,
             backup: State::NotStarted,
-            finish: p.finish,
+            finish: Some(p.finish),
         };
     }
     let may = x.detected && ready_backup <= b.start;
     let backup = state_of(loss, may, b, x.backup_group);
     let finish = if backup == State::Finished {
-        b.finish
+        Some(b.finish)
     } else {
-        0
+        None
     };
     Outcome {
         primary,

@@ -17,7 +17,7 @@ impl Entry for Outcome {
     fn put(&self, d: &mut [u8], at: usize, _form: ()) -> usize {
         let backup = put(d, at, u32::from(self.primary));
         let finish = put(d, backup, u32::from(self.backup));
-        put(d, finish, self.finish)
+        put(d, finish, self.finish.unwrap_or(0))
     }
 }
 
