@@ -1,8 +1,8 @@
 -- Laws of reading a log: one record's three numbers, each where the one before it passed, and record after record into the window.
-use Prim.Native.Nat.{ℕ, ◌+◌, ◌-◌, ◌*◌, ◌≤◌, ◌<◌}
+use Prim.Native.Nat.{ℕ, ◌+◌, ◌-◌, ◌*◌, ◌<◌}
 use mathlib.Core.Path.{◌≡◌, sym, ap, ◌∙◌, subst}
 use mathlib.Core.List.{List}
-use mathlib.Core.Option.{none, some}
+use mathlib.Core.Option.{none}
 use lib.ListN.{get_or, length}
 use native.Mathlib.Omega.{arith}
 use Rattle.reader.specs.declared.job.Job.{Job}
@@ -80,65 +80,52 @@ pub record SoFar (log : List ℕ) (job : Job) (k : ℕ) (w : Window) : Type 0 wh
   pub clear : first k (record_fault log job) ≡ none
   pub holds : Holding (record_at log) k w
 
--- `read_log`, at an offset
-pub record LogTo (log : List ℕ) (times : RunTimes) (at : ℕ) (w : Window) : Type 0 where
-  pub k : ℕ
-  pub at_is : at ≡ 12 * k
-  pub within : at ≤ length log
+-- `read_log`: the same, of every job of these run times
+pub record LogTo (log : List ℕ) (times : RunTimes) (k : ℕ) (w : Window) : Type 0 where
   pub formed : Formed w
   pub read : (job : Job) → TimesOf job times → SoFar log job k w
 
 pub log_start : (log : List ℕ) (times : RunTimes) → LogTo log times 0 empty_window
 log_start log times = record {
-  k = 0;
-  at_is = omega arith;
-  within = omega arith;
   formed = empty_formed;
   read = λ job h. record { clear = first_start (record_fault log job); holds = empty_holds (record_at log) };
 }
 
-module _ (log : List ℕ) (times : RunTimes) (at : ℕ) (w : Window) (inv : LogTo log times at w) where
+module _ (log : List ℕ) (times : RunTimes) (k : ℕ) (w : Window) (inv : LogTo log times k w) where
   -- the next record
-  module _ (x : Result Timing Refusal) (one : OneRead log times at x) where
+  module _ (x : Result Timing Refusal) (one : OneRead log times (12 * k) x) where
     -- is refused
-    pub log_stop : {r : Refusal} (v : Result Window Refusal) → at < length log → x ≡ Err r → IsErrAnd v (λ e. e ≡ r)
-        → AllRead log times v
-    unfolding log_fault records
+    pub log_stop : {r : Refusal} (v : Result Window Refusal) → k < records log → x ≡ Err r → IsErrAnd v (λ e. e ≡ r) → AllRead log times v
+    unfolding log_fault
     log_stop {r} v below q told = λ job h.
-        let inside : inv.k < records log = omega (arith, inv.at_is) in
-        let bad : record_fault log job inv.k ≡ some r = ap (timing_fault log job) (sym inv.at_is) ∙ reads_some (one job h) q in
-        stopped v told (first_found (record_fault log job) (records log) inv.k r inside (inv.read job h).clear bad)
+        let past = inv.read job h in
+        stopped v told (first_found (record_fault log job) (records log) k r below past.clear (reads_some (one job h) q))
 
     module _ {y : Timing} (q : x ≡ Ok y) where
       -- is none that is cut short: what is left behind the whole records is refused
-      pub log_cut : length log < at + 12 → (v : Result Window Refusal) → AllRead log times v
+      pub log_cut : (job : Job) → TimesOf job times → length log < 12 * k + 12 → ⊥
       unfolding timing_fault
-      log_cut cut v = λ job h.
-          let ticks = field_good log (at + 8) _ _ _ (or_else_r _ _ (or_else_r _ _ (reads_none (one job h) q))) in
-          absurd (let z : ⊥ = omega (arith, ticks.room) in z)
+      log_cut job h cut =
+          let ticks = field_good log (12 * k + 8) _ _ _ (or_else_r _ _ (or_else_r _ _ (reads_none (one job h) q))) in
+          omega (arith, ticks.room, cut)
 
       -- is taken in
-      pub log_more : at + 12 ≤ length log → (v : Window) → Takes w y v → LogTo log times (at + 12) v
-      log_more whole v push = record {
-        k = inv.k + 1;
-        at_is = omega (arith, inv.at_is);
-        within = whole;
+      pub log_more : (v : Window) → Takes w y v → LogTo log times (k + 1) v
+      log_more v push = record {
         formed = push.formed;
         read = λ job h.
             let r = one job h in
-            let fine : record_fault log job inv.k ≡ none = ap (timing_fault log job) (sym inv.at_is) ∙ reads_none r q in
-            let is : record_at log inv.k ≡ y = ap (timing_at log) (sym inv.at_is) ∙ sym (reads_value r q) in
+            let past = inv.read job h in
             record {
-              clear = first_more (record_fault log job) inv.k (inv.read job h).clear fine;
-              holds = push.holds (record_at log) inv.k is (inv.read job h).holds;
+              clear = first_more (record_fault log job) k past.clear (reads_none r q);
+              holds = push.holds (record_at log) k (sym (reads_value r q)) past.holds;
             };
       }
 
-  pub log_done : length log ≤ at → AllRead log times (Ok w)
-  unfolding log_fault records
-  log_done all = λ job h.
-      let e : inv.k ≡ records log = omega (arith, inv.at_is, inv.within) in
-      let r = inv.read job h in
+  pub log_done : k ≡ records log → AllRead log times (Ok w)
+  unfolding log_fault
+  log_done e = λ job h.
+      let past = inv.read job h in
       finished
-      (ap (λ m. first m (record_fault log job)) (sym e) ∙ r.clear)
-      (inv.formed, subst (λ m. Holding (record_at log) m w) e r.holds)
+      (ap (λ m. first m (record_fault log job)) (sym e) ∙ past.clear)
+      (inv.formed, subst (λ m. Holding (record_at log) m w) e past.holds)

@@ -71,13 +71,8 @@ pub fn read_log(log: &[u8], times: &RunTimes) -> Result<Window, Refusal>
     ensures { AllRead log.now times.now result }
 {
     let mut window = Window::empty();
-    let mut at: usize = 0;
-    while at + Timing::LENGTH <= log.len() {
-        window.take(read_timing(log, at, times)?);
-        at += Timing::LENGTH;
-    }
-    if at < log.len() {
-        read_timing(log, at, times)?;
+    for k in 0..log.len().div_ceil(Timing::LENGTH) {
+        window.take(read_timing(log, Timing::LENGTH * k, times)?);
     }
     Ok(window)
 }

@@ -26,6 +26,7 @@ impl Timing {
 }
 
 // A cell is a task and a node: of each slot its record's cell and ticks, and the slot of the next record.
+// Two lists and not one of pairs: the definitions of the window's law are of two (`Formed`, `InSlot`).
 #[derive(Clone, Copy)]
 pub struct Window {
     pub cell: [u32; Window::SIZE],

@@ -27,6 +27,7 @@ pub fn put_number(d: &mut [u8], at: usize, v: u32)
 }
 
 // The same; gives the offset behind, as all functions that put do.
+// Buffer and offset in one struct would be no plainer: each contract would say too that the struct lends the same buffer still.
 pub fn put(d: &mut [u8], at: usize, v: u32) -> usize
     requires { at + 4 ≤ length d.old }
     ensures { Puts d.old at (v ∷ []) d.new result }
@@ -58,6 +59,7 @@ pub trait Entry {
 }
 
 // The first rows of an array, one behind the other, from an offset.
+// An array and a count and not `&[T]`: how long an array of a lent struct is, which the first rows rest on, is no fact where it is cut.
 pub fn put_rows<T: Entry, const N: usize>(
     d: &mut [u8],
     from: usize,

@@ -1,11 +1,6 @@
--- What the loop of `history::log::read_log` keeps, and what falls.
-use Prim.Native.Nat.{◌-◌}
-use lib.ListN.{length}
+-- What the loop of `history::log::read_log` keeps.
 use Rattle.history.proofs.LogLaws.{LogTo}
 use Rattle.history.proofs.log.read_log.Given as goal
 
-abbrev pub invariant-loop-at : goal.invariant-loop-at
-invariant-loop-at l = LogTo l.log l.times l.at l.window
-
-abbrev pub decreases-loop-at : goal.decreases-loop-at
-decreases-loop-at l = length l.log - l.at
+abbrev pub invariant-loop-k : goal.invariant-loop-k
+invariant-loop-k l = LogTo l.log l.times l.k l.window
