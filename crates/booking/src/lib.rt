@@ -21,35 +21,37 @@ use writer::{put_job, put_plan, room};
 fn passed_files(job: &[u8], plan: &[u8]) -> Result<(Job, Plan), Refusal>
     ensures { result ≡ resulted (judge_files job.now plan.now) (job_at job.now, plan_in job.now plan.now) }
 {
-    let (job, plan) = read_files(job, plan)?;
-    judge_plan(&job, &plan)?;
-    Ok((job, plan))
+    let files = read_files(job, plan)?;
+    judge_plan(&files.0, &files.1)?;
+    Ok(files)
 }
 
 // Where the task that a file describes would go.
 pub fn ask_files(job: &[u8], plan: &[u8], task: &[u8]) -> Result<Place, Refusal>
     ensures { result ≡ asked (ask_files job.now plan.now task.now) }
 {
-    let (job, plan) = passed_files(job, plan)?;
+    let files = passed_files(job, plan)?;
+    let (job, plan) = (&files.0, &files.1);
     let version = job.version as usize;
     let nodes = job.node_count as usize;
     let tasks = job.task_count as usize;
     let description = read_question(task, version, nodes, tasks)?;
     full(job.task_count, job.link_count, description.link_count)?;
-    ask(&job, &plan, &description)
+    ask(job, plan, &description)
 }
 
 // The longer job and the longer plan, with the task at the place of a booking.
 pub fn commit_files(job: &[u8], plan: &[u8], booking: &[u8]) -> Result<(Job, Plan), Refusal>
     ensures { result ≡ committed (commit_files job.now plan.now booking.now) }
 {
-    let (job, plan) = passed_files(job, plan)?;
+    let files = passed_files(job, plan)?;
+    let (job, plan) = (&files.0, &files.1);
     let version = job.version as usize;
     let nodes = job.node_count as usize;
     let tasks = job.task_count as usize;
     let (description, place) = read_booking(booking, version, nodes, tasks)?;
     full(job.task_count, job.link_count, description.link_count)?;
-    commit(&job, &plan, &description, place)
+    commit(job, plan, &description, place)
 }
 
 // Both as files. Nothing is written before it is known that both have room.
@@ -63,14 +65,15 @@ pub fn commit_into(
     ensures { commit_into job.now plan.now booking.now out_job.old out_plan.old
         ≡ record { answer = result; job = out_job.new; plan = out_plan.new } }
 {
-    let (job, plan) = commit_files(job, plan, booking)?;
+    let booked = commit_files(job, plan, booking)?;
+    let (job, plan) = (&booked.0, &booked.1);
     let mut scratch = [0u8; Job::MAX_LENGTH];
-    let len = put_job(&mut scratch, &job);
+    let len = put_job(&mut scratch, job);
     room(out_job, len)?;
     let need = 8 + 16 * (plan.task_count as usize);
     room(out_plan, need)?;
     out_job[..len].copy_from_slice(&scratch[..len]);
-    put_plan(out_plan, &plan);
+    put_plan(out_plan, plan);
     Ok(())
 }
 
