@@ -23,7 +23,7 @@ use Rattle.planner.specs.declared.inputs.Ready.{Ready}
 use Rattle.planner.specs.declared.search.Search.{Search}
 use Rattle.planner.specs.Inputs.{ready_on}
 use Rattle.planner.specs.Search.{spot, try_at, started_at, on_node, best_of, finish_below, no_place, place_by, sooner_of}
-use Rattle.planner.specs.Search.{node_ok, fits, sweep, Searched, Asked}
+use Rattle.planner.specs.Search.{node_ok, fits, sweep, Searched}
 use Rattle.planner.proofs.LeapLaws.{sweep_past, swept, on_node_same, on_node_unable, barred_nothing, unbarred}
 
 -- what is found at t finishes at t
@@ -167,16 +167,6 @@ module _ (board : Board) (search : Search) where
 
     -- one that may
     module _ (may : (ltb 0 run and not (has search.barred n)) ≡ true) (from : ℕ) (start : from ≡ max (ready_on search.ready n) search.least) where
-      pub asked : Asked board (record { node = n; count = get_or board.layout.count n 0; set = search.set; run = run }) from
-      asked =
-          record {
-            node = few;
-            filled = pre.filled n few;
-            run = pre.run n below;
-            soon = omega (arith, pre.ready n, pre.least);
-            ends = pre.ends;
-          }
-
       pub best_next : (r : Copy) → r ≡ sooner_of best n (sweep board.copies search.set run (spots_of board.layout.order board.layout.count n) from) run → Best (n + 1) r
       best_next r h =
           let s = sweep board.copies search.set run (spots_of board.layout.order board.layout.count n) from in
@@ -185,12 +175,6 @@ module _ (board : Board) (search : Search) where
           (swept board.copies search.set n run best.finish from (spots_of board.layout.order board.layout.count n) (pre.rising n few) (ltb-true 0 run (and_l _ _ may)) s refl
           ∙ unbarred board.copies search.set (spots_of board.layout.order board.layout.count n) from search.barred n run best.finish (not_e _ (and_r _ _ may)) ∙ fits_here from start)
           (ap (λ c. place_by c search.task.deadline) h ∙ sooner_is _ best so_far.most n s run)
-
--- the last node is behind
-pub best_found : (board : Board) (search : Search) (n : ℕ) (best : Copy) (o : Option Copy) → Best board search n best
-    → search.nodes ≤ n → o ≡ place_by best search.task.deadline
-    → o ≡ best_of search.task.run (suc search.task.deadline) (fits board search) search.nodes
-best_found board search n best o h p e = e ∙ best_done _ _ _ n search.nodes _ (omega (arith, h.within)) h.is
 
 pub start_at_lem : (r : Ready) (n least ready from : ℕ) → ready ≡ ready_on r n → from ≡ max ready least → from ≡ max (ready_on r n) least
 start_at_lem r n least ready from e h = h ∙ ap (λ x. max x least) e
@@ -209,9 +193,6 @@ module _ (best : Copy) (n s run : ℕ) where
 pub better_none : (cs : Copies) (m n run from : ℕ) (l : List ℕ) (best : Copy) → best.finish ≤ from + run
     → best ≡ sooner_of best n (sweep cs m run l from) run
 better_none cs m n run from l best p = sooner_no best n _ run (omega (arith, sweep_past cs m n run l from))
-
-pub better_at : (best : Copy) (n s t run : ℕ) (r : Copy) → s ≡ t → r ≡ sooner_of best n s run → r ≡ sooner_of best n t run
-better_at best n s t run r e h = h ∙ ap (λ s. sooner_of best n s run) e
 
 module _ (best : Copy) (deadline : ℕ) where
   pub place_yes : best.finish ≤ deadline → some best ≡ place_by best deadline

@@ -1,7 +1,7 @@
 -- Both copies of a task stored, and laid out.
 use Prim.Native.Nat.{ℕ, ◌+◌, ◌*◌, ◌<◌}
 use mathlib.Core.List.{List}
-use mathlib.Core.Path.{◌≡◌, sym, ◌∙◌, ap, subst}
+use mathlib.Core.Path.{sym, ◌∙◌, ap, subst}
 use native.Mathlib.Omega.{arith}
 use Rattle.reader.specs.declared.job.Node.{Node}
 use Rattle.reader.specs.Limits.{max_nodes}
@@ -37,12 +37,3 @@ module _ (nodes : List Node) (j : ℕ) (x : Pair) (board : Board) (pre : Bookabl
     laid_same _ _ _ _ _ _ _ (λ i p. sym (ap (λ c. c.node) (b.other i (omega arith) (omega arith))))
         (λ i p. sym (ap (λ c. c.start) (b.other i (omega arith) (omega arith)))) pre.laid,
   )
-
-  pub lays_backup : (order count : List ℕ) → Laid r.node r.start (2 * j + 1) order count
-      → (2 * j + 1 < copy_count) × (node_at r.node (2 * j + 1) < max_nodes) × Laid r.node r.start (2 * j + 1) order count
-  lays_backup order count laid =
-      (pre.departing.on_rack.room, subst (λ c. c.node < max_nodes) (sym b.backup) pre.departing.on_rack.backup, laid)
-
-pub both_laid : (node start : List ℕ) (j : ℕ) (order count : List ℕ) → Laid node start (2 * j + 1 + 1) order count
-    → Laid node start (2 * (j + 1)) order count
-both_laid node start j order count h = let e : 2 * j + 1 + 1 ≡ 2 * (j + 1) = omega arith in subst (λ k. Laid node start k order count) e h

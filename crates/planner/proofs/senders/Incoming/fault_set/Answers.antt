@@ -1,26 +1,11 @@
 -- `planner::senders::Incoming::fault_set` meets its contract.
-use mathlib.Core.Path.{ap}
 use native.Mathlib.Omega.{arith}
-use Rattle.planner.proofs.SenderLaws.{walk_arriving, walk_next}
+use Rattle.planner.proofs.SenderLaws.{walk_next}
 use Rattle.planner.proofs.FaultLaws.{faulting_start, faulting_more, faulting_done}
 use Rattle.planner.proofs.senders.Incoming.fault_set.Goals as goal
 
 pub loop-left-init : goal.loop-left-init
 loop-left-init c = faulting_start _ _ _ _ c.requires.0
-
-pub sender_at-x-requires : goal.sender_at-x-requires
-sender_at-x-requires c = walk_arriving _ _ _ _ c.loop-left.invariant.walk c.loop-left-test.true
-
-pub late_bit-weak-requires : goal.late_bit-weak-requires
-late_bit-weak-requires c =
-    omega (
-      arith,
-      ap (λ x. x.task) c.sender_at-x.ensures.1,
-      (walk_arriving _ _ _ _ c.loop-left.invariant.walk c.loop-left-test.true).few,
-    )
-
-pub loop-left-smaller : goal.loop-left-smaller
-loop-left-smaller c = (walk_next _ _ _ _ c.loop-left.invariant.walk c.loop-left-test.true _ c.sender_at-x.ensures.1).less
 
 pub loop-left-preserved : goal.loop-left-preserved
 loop-left-preserved c =

@@ -1,19 +1,11 @@
 -- `planner::senders::Incoming::own_time` meets its contract.
 use native.Mathlib.Omega.{arith}
-use Rattle.planner.proofs.SenderLaws.{walk_arriving, walk_next}
+use Rattle.planner.proofs.SenderLaws.{walk_next}
 use Rattle.planner.proofs.InputLaws.{owning_start, owning_more, owning_done}
 use Rattle.planner.proofs.senders.Incoming.own_time.Goals as goal
 
 pub loop-left-init : goal.loop-left-init
 loop-left-init c = owning_start _ _ _ _ c.requires _
-
-pub sender_at-x-requires : goal.sender_at-x-requires
-sender_at-x-requires c = walk_arriving _ _ _ _ c.loop-left.invariant.walk c.loop-left-test.true
-
-pub loop-left-smaller : goal.loop-left-smaller
-loop-left-smaller c =
-    (walk_next _ _ _ _ c.loop-left.invariant.walk c.loop-left-test.true _
-    c.sender_at-x.ensures.1).less
 
 pub loop-left-preserved : goal.loop-left-preserved
 loop-left-preserved c =
