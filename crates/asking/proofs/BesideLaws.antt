@@ -39,11 +39,11 @@ use Rattle.planner.specs.declared.senders.Incoming.{Incoming}
 use Rattle.planner.specs.declared.task.Want.{Want}
 use Rattle.planner.specs.Senders.{Into, Sendable, Sent}
 use Rattle.planner.specs.Faults.{Peers}
-use Rattle.planner.specs.Tasks.{pair_row, attempted, want_of, LaidTo, Blank, Wanted, Bookable, Booked, departed}
+use Rattle.planner.specs.Tasks.{pair_row, attempted, want_of, LaidTo, Blank, Wanted, Booked, departed}
 use Rattle.planner.proofs.KeepsLaws.{Found}
 use Rattle.planner.proofs.SenderLaws.{sendable}
 use Rattle.planner.proofs.SentLaws.{sent_into, into_few, into_sending, into_faults}
-use Rattle.planner.proofs.StoreLaws.{beside_start, pair_bookable, booked_row, booked_beside}
+use Rattle.planner.proofs.StoreLaws.{beside_start, booked_row, booked_beside}
 use Rattle.planner.proofs.WantLaws.{Told, asked, told}
 use Rattle.asking.specs.Calls.{Asking}
 use Rattle.asking.specs.Merge.{merged_links, Merged}
@@ -114,9 +114,6 @@ module _ (job : Job) (plan : Plan) (net : Incoming) (n : ℕ) (can : Storing job
       faults_are =
           sym (into_faults job _ j _ by_links_lem j board so_far.beside.leaving (λ k p e. omega (arith, can.sound.rise k p))
           x.primary own x.set (sym (ap (λ c. group job c.node) taken.primary)) taken.set)
-
-      pub bookable : Bookable job.nodes j x board
-      bookable = pair_bookable job j board can.sound so_far.beside task_of_lem x p_found q_found
 
       planned_row_lem : pair_row x ≡ planned_row job plan (row_of cs) j
       unfolding planned_row row copy
@@ -189,13 +186,7 @@ module _ (job : Job) (plan : Plan) (d : Description) where
     abbrev can : Storing big plan net (tasks job)
     can = so_far.storing
 
-    pub new_few : get_or net.last (tasks job) 0 ≤ max_links
-    new_few = into_few big _ can.sent (tasks job) can.sound new_of
-
     module _ (below : j < tasks job) where
-      pub old_few : get_or net.last j 0 ≤ max_links
-      old_few = links_few big plan _ _ can j below
-
       abbrev its : ℕ
       its = group job (place plan j).primary_node
 
@@ -209,10 +200,6 @@ module _ (job : Job) (plan : Plan) (d : Description) where
       module _ (x : Pair) (taken : Taken net board (get_or net.last j 0) (task job j) (place plan j) its x) where
         big_taken : Taken net board (get_or net.last j 0) (task big j) (place plan j) its x
         big_taken = taken_as _ _ _ _ _ (sym same_task) _ _ x taken
-
-        pub old_bookable : Bookable job.nodes j x board
-        unfolding longer_job
-        old_bookable = bookable big plan _ _ can j below board so_far.stored x big_taken
 
         pub old_more : (r : Board) → Booked j x board.copies r.copies → r.leave ≡ departed job.nodes j x board.leave → LaidTo (2 * (j + 1)) r
             → BesideTo job plan d net (j + 1) r

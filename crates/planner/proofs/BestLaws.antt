@@ -88,9 +88,6 @@ module _ (runs : List ℕ) (d : ℕ) (ok : Copy → Bool) where
       last : first (suc d) (λ t. first k (on t) or_else on t k) ≡ first (suc d) (λ t. first (k + 1) (on t))
       last = simp add-one refl
 
-  pub best_done : (k n : ℕ) (r : Option Copy) → k ≡ n → r ≡ best_of runs (suc d) ok k → r ≡ best_of runs (suc d) ok n
-  best_done k n r e h = rw e at h
-
 -- the best so far as a copy, which counts where it finishes by the deadline
 module _ (d : ℕ) where
   pub nowhere_none : place_by (no_place d) d ≡ none

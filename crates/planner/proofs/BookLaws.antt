@@ -27,13 +27,12 @@ stored_booked cs j x half r one then whole =
       other_set = λ k y z. then.other_set k z ∙ one.other_set k y;
     }
 
--- where they are stored, they can be laid out one after the other
-module _ (nodes : List Node) (j : ℕ) (x : Pair) (board : Board) (pre : Bookable nodes j x board) (r : Copies) (b : Booked j x board.copies r) where
-  pub lays_primary : (2 * j < copy_count) × (node_at r.node (2 * j) < max_nodes)
-      × Laid r.node r.start (2 * j) board.layout.order board.layout.count
-  lays_primary = (
-    omega (arith, pre.departing.on_rack.room),
-    subst (λ c. c.node < max_nodes) (sym b.primary) pre.departing.on_rack.primary,
-    laid_same _ _ _ _ _ _ _ (λ i p. sym (ap (λ c. c.node) (b.other i (omega arith) (omega arith))))
-        (λ i p. sym (ap (λ c. c.start) (b.other i (omega arith) (omega arith)))) pre.laid,
-  )
+-- where they are stored, the primary can be laid out
+pub lays_primary : (nodes : List Node) (j : ℕ) (x : Pair) (board : Board) → Bookable nodes j x board → (r : Copies) → Booked j x board.copies r
+    → (2 * j < copy_count) × (node_at r.node (2 * j) < max_nodes) × Laid r.node r.start (2 * j) board.layout.order board.layout.count
+lays_primary nodes j x board pre r b = (
+  omega (arith, pre.departing.on_rack.room),
+  subst (λ c. c.node < max_nodes) (sym b.primary) pre.departing.on_rack.primary,
+  laid_same _ _ _ _ _ _ _ (λ i p. sym (ap (λ c. c.node) (b.other i (omega arith) (omega arith))))
+      (λ i p. sym (ap (λ c. c.start) (b.other i (omega arith) (omega arith)))) pre.laid,
+)

@@ -2,12 +2,6 @@
 use Rattle.asking.proofs.CallLaws.{big_sound, long_planned, commit_done, commit_refused}
 use Rattle.asking.proofs.commit.Goals as goal
 
-pub longer_job-big-requires : goal.longer_job-big-requires
-longer_job-big-requires c = c.requires.asking.room
-
-pub longer_plan-long-requires : goal.longer_plan-long-requires
-longer_plan-long-requires c = c.requires.asking.room.tasks_fit
-
 pub judge_plan-requires : goal.judge_plan-requires
 judge_plan-requires c =
     let ok = c.requires in

@@ -19,9 +19,6 @@ loop-k-init c =
     let q = c.in_ok-count.was in
     ((is_good _ _ _ _ _ _ e q).1, refl, read_begin _ _ _ _ _ _ _ (is_none _ _ _ e q) (is_value _ _ _ e q) refl)
 
-pub read_new_link-requires : goal.read_new_link-requires
-read_new_link-requires c = (omega (arith, c.loop-k.invariant.0), c.requires.1, c.requires.2)
-
 pub returns-in_err-before : goal.returns-in_err-before
 unfolding new_links_fault
 returns-in_err-before c =
@@ -29,9 +26,6 @@ returns-in_err-before c =
     let bad = reads_some c.read_new_link.ensures c.in_err-before.was in
     stopped _ c.from_residual-in_err-before.ensures.1
     (read_stop _ _ _ _ _ _ _ _ l.2 c.loop-k-test.true (new_behind_same _ _ _ l.1 bad))
-
-pub bounds-list-k : goal.bounds-list-k
-bounds-list-k c = omega (arith, c.loop-k.invariant.0)
 
 pub loop-k-preserved : goal.loop-k-preserved
 loop-k-preserved c =
