@@ -68,7 +68,8 @@ pub fn put_rows<T: Entry, const N: usize>(
     rows: &[T; N],
 ) -> usize
     requires { (count ≤ N) × (from + count * T.width form ≤ length d.old) }
-    ensures { (none : _) → Rows (λ i. T.numbers form (get_or rows.now i none)) (T.width form) d.old from count d.new result }
+    ensures rows { (none : _) → Rows (λ i. T.numbers form (get_or rows.now i none)) (T.width form) d.old from count d.new result }
+    ensures most { result ≤ from + count * T.width form }
 {
     let mut at = from;
     for x in &rows[..count] {
@@ -173,6 +174,7 @@ fn clip(count: u32, most: usize) -> usize
 }
 
 // A job's numbers, from the buffer's front.
+#[tactic(auto, using(crate::proofs::PutLaws::job_room))]
 pub fn put_job(d: &mut [u8], job: &Job) -> usize
     requires { max_job_length ≤ length d.old }
     ensures { (result ≤ max_job_length) × Puts d.old 0 (job_numbers job.now) d.new result }

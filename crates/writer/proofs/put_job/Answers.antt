@@ -14,36 +14,15 @@ put_rows-at-requires c =
 pub put-at-requires-3 : goal.put-at-requires-3
 put-at-requires-3 c =
     let room = job_room c.args.job.now.version _ _ _ c.clip-p.ensures c.clip-n.ensures c.clip-m.ensures in
-    let nodes = c.put_rows-at.ensures no_node in
     omega arith
-
-pub put_rows-at-requires-2 : goal.put_rows-at-requires-2
-put_rows-at-requires-2 c =
-    let room = job_room c.args.job.now.version _ _ _ c.clip-p.ensures c.clip-n.ensures c.clip-m.ensures in
-    let nodes = c.put_rows-at.ensures no_node in
-    (omega arith, omega arith)
-
-pub put-at-requires-4 : goal.put-at-requires-4
-put-at-requires-4 c =
-    let room = job_room c.args.job.now.version _ _ _ c.clip-p.ensures c.clip-n.ensures c.clip-m.ensures in
-    let nodes = c.put_rows-at.ensures no_node in
-    let tasks = c.put_rows-at-2.ensures no_task in
-    omega arith
-
-pub put_rows-requires : goal.put_rows-requires
-put_rows-requires c =
-    let room = job_room c.args.job.now.version _ _ _ c.clip-p.ensures c.clip-n.ensures c.clip-m.ensures in
-    let nodes = c.put_rows-at.ensures no_node in
-    let tasks = c.put_rows-at-2.ensures no_task in
-    (omega arith, omega arith)
 
 pub returns : goal.returns
 unfolding job_numbers numbers_of
 returns c =
     let room = job_room c.args.job.now.version _ _ _ c.clip-p.ensures c.clip-n.ensures c.clip-m.ensures in
-    let nodes = c.put_rows-at.ensures no_node in
-    let tasks = c.put_rows-at-2.ensures no_task in
-    let links = c.put_rows.ensures no_link in (
+    let nodes = c.put_rows-at.ensures.rows no_node in
+    let tasks = c.put_rows-at-2.ensures.rows no_task in
+    let links = c.put_rows.ensures.rows no_link in (
       omega arith,
       rw (c.clip-p.ensures, c.clip-n.ensures, c.clip-m.ensures) at
           (puts_then c.put-at.ensures (puts_then c.put-at-2.ensures (puts_then nodes.puts

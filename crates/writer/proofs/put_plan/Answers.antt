@@ -8,5 +8,5 @@ use Rattle.writer.proofs.put_plan.Goals as goal
 pub returns : goal.returns
 unfolding plan_numbers
 returns c =
-    let places = c.put_rows.ensures no_place in
-    (omega (arith, places.most), rw c.clip-n.ensures at (puts_then c.put-at.ensures (puts_then c.put-at-2.ensures places.puts)))
+    let places = c.put_rows.ensures.rows no_place in
+    (omega arith, rw c.clip-n.ensures at (puts_then c.put-at.ensures (puts_then c.put-at-2.ensures places.puts)))

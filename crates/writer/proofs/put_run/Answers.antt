@@ -2,4 +2,4 @@
 use Rattle.writer.proofs.put_run.Goals as goal
 
 pub returns : goal.returns
-returns c = c.put_rows.ensures 0
+returns c = c.put_rows.ensures.rows 0
