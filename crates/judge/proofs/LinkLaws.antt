@@ -178,6 +178,7 @@ module _ (job : Job) (cs : Copies) (leave : List ℕ) (timed : Timed job cs leav
   unfolding by_links first_link
   walk_done r e =
       record {
+        size = all.size;
         weak = all.weak;
         answer =
             ap answer_of e ∙ answer_resulted _ _

@@ -7,7 +7,8 @@ use mathlib.Core.Option.{Option, none, some}
 use mathlib.Core.Path.{◌≡◌, refl, sym, ◌∙◌, ap, ap₂, subst, fun_ext}
 use native.Mathlib.Nat.{not-suc-le-zero}
 use native.Mathlib.Omega.{arith}
-use lib.ListN.{get_or}
+use lib.ListN.{get_or, take, length}
+use Rattle.std.proofs.lemmas.List.{get_or-take, length-take}
 use borrow.Author.Tests.{eq-eqb}
 use Rattle.reader.specs.declared.job.Job.{Job}
 use Rattle.reader.specs.declared.plan.Plan.{Plan}
@@ -223,9 +224,23 @@ module _ (job : Job) (plan : Plan) (sound : Sound job) (reads : PlanSound job pl
     links_refused done q = ends (pass _ (no_task done) ∙ stop _ ((answered_refused _ _).0 (sym links_answer ∙ ap answer_of q)))
 
     -- the sets once all tasks are gathered, and the table with them
-    module _ (sets : List ℕ) (gathers : GathersAll into (tasks job) cs.set sets) where
+    module _ (sets : List ℕ) (gathers : let weak = take (tasks job) into in GathersAll weak (length weak) cs.set sets) where
+      long : length (take (tasks job) into) ≡ tasks job
+      long = omega (arith, length-take (tasks job) into, walked.size, sound.tasks_most)
+
+      received : Receiving job plan (take (tasks job) into) (length (take (tasks job) into))
+      received =
+          let r = receiving job plan sound reads cs placed.tabled.copied into walked.weak in
+          record {
+            sound = sound;
+            count = sym long;
+            arrives = λ j p i.
+                let low : j < tasks job = omega (arith, long) in
+                ap (λ w. has w i) (get_or-take (tasks job) into j 0 low) ∙ r.arrives j low i;
+          }
+
       pub filled : SetsTo job plan (tasks job) sets
-      filled = gathers job plan (receiving job plan sound reads cs placed.tabled.copied into walked.weak) own_sets
+      filled = subst (λ n. SetsTo job plan n sets) long (gathers job plan received own_sets)
 
       abbrev full : Copies
       full = table cs.node cs.start cs.finish sets
@@ -264,7 +279,8 @@ module _ (job : Job) (plan : Plan) (sound : Sound job) (reads : PlanSound job pl
           before : (o : Option Refusal) → (by_tasks job (rows job plan) or_else by_links job (rows job plan) or_else o) ≡ o
           before o = pass _ (no_task done) ∙ pass _ ((answered_done _).0 (sym links_answer ∙ ap answer_of is))
 
-          pub backups_refused : (u : Answer) → Passed u → {r : Refusal} → u ≡ Err r → (x : Answer) → IsErrAnd x (λ e. e ≡ r) → x ≡ judge job plan
+          pub backups_refused : (u : Answer) → Passed u → {r : Refusal} → u ≡ Err r
+              → (x : Answer) → IsErrAnd x (λ e. e ≡ r) → x ≡ judge job plan
           backups_refused u e q = ends (before _ ∙ stop _ ((answered_refused _ _).0 (sym (backups_answer u e) ∙ q)))
 
           pub faults_answered : Fed → (u : Answer) → u ≡ answered (fault_breach full job.nodes (tasks job)) → u ≡ judge job plan

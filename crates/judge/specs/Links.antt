@@ -1,5 +1,5 @@
 -- What the pass over the links gives: the weak links, the answer of D, and what it leaves of E.
-use Rattle.std.specs.Prelude.{ℕ, ◌+◌, ◌*◌, ◌≤◌, ◌<◌, Bool, true, false, List, ◌≡◌, get_or, Result, Ok}
+use Rattle.std.specs.Prelude.{ℕ, ◌+◌, ◌*◌, ◌≤◌, ◌<◌, Bool, true, false, List, ◌≡◌, get_or, length, Result, Ok}
 use Rattle.reader.specs.declared.job.Job.{Job}
 use Rattle.reader.specs.declared.job.Link.{Link}
 use Rattle.reader.specs.declared.refusal.Refusal.{Refusal}
@@ -56,6 +56,7 @@ SureBut job t k unsure = (m : ℕ) → m < k → sure job t m ≡ false → has 
 
 -- the weak links of all, the answer of D, and the senders of links that are not sure
 pub record LinksJudged (job : Job) (cs : Copies) (into : List ℕ) (r : Result ℕ Refusal) : Type 0 where
+  pub size : length into ≡ max_tasks
   pub weak : WeakTo job (row_of cs) (links job) into
   pub answer : answer_of r ≡ answered (by_links job (row_of cs))
   pub unsure : (u : ℕ) → r ≡ Ok u → SureBut job (row_of cs) (links job) u

@@ -1,5 +1,5 @@
 // Fault sets, task by task in the order of the receiving task, and rule F.
-ghost use Rattle.std.specs.Prelude.{◌≡◌, ◌≤◌};
+ghost use Rattle.std.specs.Prelude.{◌≡◌, ◌≤◌, length};
 ghost use Rattle.reader.specs.Entries.{tasks};
 ghost use Rattle.reader.specs.Limits.{max_tasks};
 ghost use Rattle.reader.specs.Refusals.{answered};
@@ -11,16 +11,15 @@ use copies::table::Copies;
 use reader::job::Job;
 use reader::refusal::Refusal;
 
-// The fault sets of the first n tasks, from the state in which each is its own primary's group: `into` has for each task those from which weak
-// links arrive at it. Once a task is gathered its set stays.
-pub fn fault_sets(into: &[u64; Job::MAX_TASKS], n: usize, sets: &mut [u32; Copies::COUNT])
-    requires { n ≤ max_tasks }
-    ensures { GathersAll into.now n sets.old sets.new }
+// The fault sets of all tasks, from the state in which each is its own primary's group: `into` has for each task those from which weak links
+// arrive at it. Once a task is gathered its set stays.
+pub fn fault_sets(into: &[u64], sets: &mut [u32; Copies::COUNT])
+    requires { length into.now ≤ max_tasks }
+    ensures { GathersAll into.now (length into.now) sets.old sets.new }
 {
-    for j in 0..n {
+    for (j, weak) in into.iter().enumerate() {
         let k = 2 * j + 1;
-        let own = sets[k];
-        sets[k] = gather_task(sets, own, into[j]);
+        sets[k] = gather_task(sets, sets[k], *weak);
     }
 }
 

@@ -46,7 +46,7 @@ pub fn judge_plan(job: &Job, plan: &Plan) -> Result<(), Refusal>
     place_copies(job, plan, &mut copies, &mut leave)?;
     let mut into = [0; Job::MAX_TASKS];
     let unsure = walk_links(job, &copies, &leave, &mut into)?;
-    fault_sets(&into, job.task_count as usize, &mut copies.set);
+    fault_sets(&into[..job.task_count as usize], &mut copies.set);
     if unsure != 0 {
         backups_fed(job, unsure, &copies, &leave)?;
     }

@@ -21,6 +21,6 @@ pub fn plan_sets(job: &Job, plan: &Plan) -> [u32; Copies::COUNT]
     let _ = place_copies(job, plan, &mut copies, &mut leave);
     let mut into = [0; Job::MAX_TASKS];
     let _ = walk_links(job, &copies, &leave, &mut into);
-    fault_sets(&into, job.task_count as usize, &mut copies.set);
+    fault_sets(&into[..job.task_count as usize], &mut copies.set);
     copies.set
 }
