@@ -13,6 +13,7 @@ pub fn gather_task(sets: &[u32; Copies::COUNT], so_far: u32, weak: u64) -> u32
     ensures gathers { Gathers sets.now so_far weak result }
 {
     let mut set = so_far;
+    // As many turns as there are members: a `for` over the tasks would have 64.
     let mut left = weak;
     while left != 0 {
         let i = left.trailing_zeros() as usize;

@@ -27,8 +27,7 @@ pub fn backups_fed(
     requires { Unsure job.now unsure copies.now leave.now }
     ensures { result ≡ answered (backup_breach job.now copies.now leave.now) }
 {
-    for k in 0..job.link_count as usize {
-        let l = &job.links[k];
+    for l in &job.links[..job.link_count as usize] {
         let i = l.from as usize;
         if (unsure >> i) % 2 == 1 {
             let j = l.to as usize;

@@ -6,7 +6,7 @@ use Rattle.judge.specs.Backups.{link_feeds}
 use Rattle.judge.proofs.ScanLaws.{Clear}
 use Rattle.judge.proofs.backups.backups_fed.Given as goal
 
-abbrev pub invariant-loop-k : goal.invariant-loop-k
-invariant-loop-k l =
-    let job = l.job in
-    Clear (links job) (λ k. unless (link_feeds job l.copies l.leave k) (BackupUnfed (link job k).from (link job k).to)) l.k
+abbrev pub invariant-loop-l : goal.invariant-loop-l
+invariant-loop-l v =
+    let job = v.job in
+    Clear (links job) (λ k. unless (link_feeds job v.copies v.leave k) (BackupUnfed (link job k).from (link job k).to)) v.l-index
