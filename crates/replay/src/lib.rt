@@ -54,8 +54,7 @@ pub fn replay_plan(job: &Job, plan: &Plan, times: Option<&Times>, loss: Loss) ->
         let o = settle(y, r.primary[j].max(task.ready), r.backup[j], loss);
         r.store(j, o, x);
     }
-    let of = r.of;
-    Outcomes { of }
+    Outcomes { of: r.of }
 }
 
 // Replays, and writes what that tells of each task of the job.

@@ -95,9 +95,9 @@ fn replay_files(
 }
 
 // Puts the fault sets of the first n tasks, entries of the table of copies, from the buffer's front.
-fn put_sets(out: &mut [u8], sets: [u32; Copies::COUNT], n: usize)
+fn put_sets(out: &mut [u8], sets: &[u32; Copies::COUNT], n: usize)
     requires { (n ≤ max_tasks) × (4 * n ≤ length out.old) }
-    ensures { Rows (λ j. get_or sets (2 * j + 1) 0 ∷ []) 4 out.old 0 n out.new (4 * n) }
+    ensures { Rows (λ j. get_or sets.now (2 * j + 1) 0 ∷ []) 4 out.old 0 n out.new (4 * n) }
 {
     for j in 0..n {
         put_number(out, 4 * j, sets[2 * j + 1]);
@@ -110,7 +110,7 @@ fn sets_files(job: &[u8], plan: &[u8], out: &mut [u8]) -> Result<(), Refusal>
     let (job, plan) = read_files(job, plan)?;
     let n = job.task_count as usize;
     room(out, 4 * n)?;
-    put_sets(out, plan_sets(&job, &plan), n);
+    put_sets(out, &plan_sets(&job, &plan), n);
     Ok(())
 }
 
