@@ -74,7 +74,8 @@ module _ {s : List ℕ} {job : Job} {t : Task} {at : ℕ} (task : TaskRead s job
         let value = reads_value reads q in
         value.3 ∙ ap₂ (λ at m. at + 4 + 8 * m) task.ends (value.1 ∙ ap (number_at s) task.ends)
 
-    pub described : Reads {A = Description × ℕ} (description_fault s job) (Ok (read, ls.end)) (λ x. (x.0 ≡ description_at s job) × (x.1 ≡ description_length s job))
+    pub described : Reads {A = Description × ℕ} (description_fault s job) (Ok (read, ls.end))
+        (λ x. (x.0 ≡ description_at s job) × (x.1 ≡ description_length s job))
     unfolding description_fault
     described = finished (pass _ task.fine ∙ sym links_same ∙ reads_none reads q) (is, ends)
 

@@ -50,5 +50,6 @@ unfolding new_link_before
 new_before_more s at n k l e = rw add-one e
 
 -- the same fault, behind an equal link
-pub new_behind_same : (s : List ℕ) (at n : ℕ) {a b : Link} {o : Option Refusal} → a ≡ b → new_link_fault s at n a ≡ o → new_link_fault s at n b ≡ o
+pub new_behind_same : (s : List ℕ) (at n : ℕ) {a b : Link} {o : Option Refusal} → a ≡ b → new_link_fault s at n a ≡ o
+    → new_link_fault s at n b ≡ o
 new_behind_same s at n {a} {b} {o} e = subst (λ x. new_link_fault s at n x ≡ o) e

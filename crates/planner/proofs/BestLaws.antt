@@ -134,6 +134,9 @@ module _ (board : Board) (search : Search) where
     abbrev run : ℕ
     run = get_or search.task.run n 0
 
+    abbrev the_spots : List ℕ
+    the_spots = spots_of board.layout.order board.layout.count n
+
     few : n < max_nodes
     few = omega (arith, pre.nodes_most)
 
@@ -148,29 +151,29 @@ module _ (board : Board) (search : Search) where
 
     -- the node's part of the search
     fits_here : (from : ℕ) → from ≡ max (ready_on search.ready n) search.least
-        → on_node n run best.finish (node_ok board.copies search.set (spots_of board.layout.order board.layout.count n) from search.barred)
+        → on_node n run best.finish (node_ok board.copies search.set the_spots from search.barred)
         ≡ on_node n run best.finish (fits board search)
     unfolding fits
     fits_here from start =
-        on_node_same n run best.finish _ _ (λ s. ap (λ x. node_ok board.copies search.set (spots_of board.layout.order board.layout.count n) x search.barred (spot n s run)) start)
+        on_node_same n run best.finish _ _ (λ s. ap (λ x. node_ok board.copies search.set the_spots x search.barred (spot n s run)) start)
 
     -- a node that may not have the copy
     pub best_passed : (r : Copy) → (ltb 0 run and not (has search.barred n)) ≡ false → r ≡ best → Best (n + 1) r
     unfolding ◌or_else◌ ◌and◌
     best_passed r h e = subst (Best (n + 1)) (sym e) (split (ltb 0 run)
         (λ e. next best none so_far.most
-        (barred_nothing board.copies search.set (spots_of board.layout.order board.layout.count n) _ search.barred n run best.finish (not_x _ (rw e at h)) ∙ fits_here _ refl) refl)
+        (barred_nothing board.copies search.set the_spots _ search.barred n run best.finish (not_x _ (rw e at h)) ∙ fits_here _ refl) refl)
         (λ e. next best none so_far.most (on_node_unable n best.finish _ run (let z = ltb-false 0 run e in omega arith)) refl))
 
     -- one that may
     module _ (may : (ltb 0 run and not (has search.barred n)) ≡ true) (from : ℕ) (start : from ≡ max (ready_on search.ready n) search.least) where
-      pub best_next : (r : Copy) → r ≡ sooner_of best n (sweep board.copies search.set run (spots_of board.layout.order board.layout.count n) from) run → Best (n + 1) r
+      pub best_next : (r : Copy) → r ≡ sooner_of best n (sweep board.copies search.set run the_spots from) run → Best (n + 1) r
       best_next r h =
-          let s = sweep board.copies search.set run (spots_of board.layout.order board.layout.count n) from in
+          let s = sweep board.copies search.set run the_spots from in
           next r (started_at n run best.finish s)
           (subst (λ c. c.finish ≤ search.task.deadline + 1) (sym h) (sooner_most _ best so_far.most n s run))
-          (swept board.copies search.set n run best.finish from (spots_of board.layout.order board.layout.count n) (pre.rising n few) (ltb-true 0 run (and_l _ _ may)) s refl
-          ∙ unbarred board.copies search.set (spots_of board.layout.order board.layout.count n) from search.barred n run best.finish (not_e _ (and_r _ _ may)) ∙ fits_here from start)
+          (swept board.copies search.set n run best.finish from the_spots (pre.rising n few) (ltb-true 0 run (and_l _ _ may)) s refl
+          ∙ unbarred board.copies search.set the_spots from search.barred n run best.finish (not_e _ (and_r _ _ may)) ∙ fits_here from start)
           (ap (λ c. place_by c search.task.deadline) h ∙ sooner_is _ best so_far.most n s run)
 
 pub start_at_lem : (r : Ready) (n least ready from : ℕ) → ready ≡ ready_on r n → from ≡ max ready least → from ≡ max (ready_on r n) least

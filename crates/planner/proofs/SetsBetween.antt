@@ -15,7 +15,8 @@ use Rattle.planner.specs.declared.senders.Incoming.{Incoming}
 use Rattle.planner.specs.Tasks.{Planning}
 
 module _ (job : Job) (net : Incoming) (j : ℕ) (board : Board) (so_far : Planning job net j board) where
-  pub sets_placed : (plan : Plan) → planner job ≡ placed plan → (i q : ℕ) → i < j → has (set_at board.copies (2 * i + 1)) q ≡ gathered_to job plan j i q
+  pub sets_placed : (plan : Plan) → planner job ≡ placed plan → (i q : ℕ) → i < j
+      → has (set_at board.copies (2 * i + 1)) q ≡ gathered_to job plan j i q
   unfolding planner row_of
   sets_placed plan h i q p =
       ap (λ f. f q) (placed_gathered job anywhere so_far.sound plan h j (row_of board.copies) so_far.within so_far.is i p)

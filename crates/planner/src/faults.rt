@@ -21,12 +21,8 @@ impl Incoming {
         ensures { Faulted self.now board.now last primary group result }
     {
         let mut weak: u64 = 0;
-        let mut left = last;
-        // no index: the chain says which link is next
-        while left != 0 {
-            let x = self.sender_at(board, left - 1);
+        for x in self.senders(board, last) {
             weak |= late_bit(in_time(x.backup, primary), x.task);
-            left = x.next;
         }
         gather_task(&board.copies.set, bit_of(group), weak)
     }

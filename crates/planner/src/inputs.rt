@@ -49,16 +49,12 @@ impl Incoming {
         ensures { Reached self.now board.now last set result }
     {
         let mut reach = Reach { at: 0, from: 0 };
-        let mut left = last;
-        // no index: the chain says which link is next
-        while left != 0 {
-            let x = self.sender_at(board, left - 1);
+        for x in self.senders(board, last) {
             let p = x.primary;
             let b = x.backup;
             let half = farther(reach, p.node, p.away);
             let late = pick(x.set & set != 0, b.away, 0);
             reach = farther(half, b.node, late);
-            left = x.next;
         }
         reach
     }
@@ -69,14 +65,10 @@ impl Incoming {
         ensures { Owned self.now board.now last set to result }
     {
         let mut own: u32 = 0;
-        let mut left = last;
-        // no index: the chain says which link is next
-        while left != 0 {
-            let x = self.sender_at(board, left - 1);
+        for x in self.senders(board, last) {
             let half = own.max(arrival(x.primary, to));
             let late = arrival(x.backup, to);
             own = half.max(pick(x.set & set != 0, late, 0));
-            left = x.next;
         }
         own
     }
