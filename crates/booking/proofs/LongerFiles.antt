@@ -50,7 +50,8 @@ module _ (job : Job) (d : Description) (room : Room job d) where
         → plan_at (plan_bytes (longer_plan job plan x)) (tasks big) ≡ longer_plan job plan x
     unfolding read_plan longer_plan longer_job
     longer_plan_reread plan x planned =
-        sym (resulted_value _ (plan_fault (plan_bytes (longer_plan job plan x)) big) (filled_plan_reread big _ (put (place plan) (tasks job) x) sound planned refl))
+        sym (resulted_value _ (plan_fault (plan_bytes (longer_plan job plan x)) big)
+        (filled_plan_reread big _ (put (place plan) (tasks job) x) sound planned refl))
 
 -- the bytes of a job that reads back as itself
 pub job_bytes_length : (job : Job) → Sound job → job_at (job_bytes job) ≡ job

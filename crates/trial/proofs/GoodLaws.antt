@@ -90,7 +90,8 @@ module _ (job : Job) (cs : Copies) (leave : List ℕ) (w : Placed job cs leave) 
 
   -- the word of a task tells in which runs it is done
   tells_done : (j : ℕ) → (q : j < tasks job) → let by = deadline job j in
-      Tells (either_of (leb (get_or cs.finish (2 * j) 0) by) (get_or y.ended (2 * j) 0) (leb (get_or cs.finish (2 * j + 1) 0) by) (get_or y.ended (2 * j + 1) 0))
+      Tells (either_of (leb (get_or cs.finish (2 * j) 0) by) (get_or y.ended (2 * j) 0)
+      (leb (get_or cs.finish (2 * j + 1) 0) by) (get_or y.ended (2 * j + 1) 0))
       (λ r. done_by by (t j) (x r j))
   unfolding replay
   tells_done j q r p =

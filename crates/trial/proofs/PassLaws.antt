@@ -96,7 +96,8 @@ module _ (nodes : List Node) (node finish : List ℕ) (first n : ℕ) where
         }
 
     -- where no primary is left, or no run
-    pub noting_done : Losable nodes node finish n → (r < run_count → n ≤ first + r) → LossesFrom nodes node finish first n (record { lost = lost; moment = moment })
+    pub noting_done : Losable nodes node finish n → (r < run_count → n ≤ first + r)
+        → LossesFrom nodes node finish first n (record { lost = lost; moment = moment })
     unfolding loss_at loss_in
     noting_done able left i p =
         elim (dec_lt i r) [

@@ -26,7 +26,8 @@ use Rattle.seqopchi.proofs.Unpacked.{judge_unpacks}
 use Rattle.trial.specs.Calls.{Answers, TrialAnswers}
 
 -- a file is refused, and that is handed on
-pub tried_stops : (file plan : List ℕ) {r : Refusal} (n : ℕ) → files_fault file plan ≡ some r → n ≡ result_number (Err r) → TrialAnswers file plan n
+pub tried_stops : (file plan : List ℕ) {r : Refusal} (n : ℕ) → files_fault file plan ≡ some r → n ≡ result_number (Err r)
+    → TrialAnswers file plan n
 unfolding Answers
 tried_stops file plan n bad e = rw bad e
 

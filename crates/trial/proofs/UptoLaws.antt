@@ -307,7 +307,8 @@ module _ (job : Job) (cs : Copies) (leave : List ℕ) (w : Placed job cs leave) 
             told =
                 record {
                   ended_size = ap length ends ∙ length-set (set y.ended (2 * j) _) (2 * j + 1) _ ∙ length-set y.ended (2 * j) _ ∙ old.ended_size;
-                  started_size = ap length starts ∙ length-set (set y.started (2 * j) _) (2 * j + 1) _ ∙ length-set y.started (2 * j) _ ∙ old.started_size;
+                  started_size =
+                      ap length starts ∙ length-set (set y.started (2 * j) _) (2 * j + 1) _ ∙ length-set y.started (2 * j) _ ∙ old.started_size;
                   ends = subst (λ z. (i : ℕ) (a : Role) → i < j + 1 → Tells (get_or z (at i a) 0) (λ r. is_finished (state_of a (x r i)))) (sym ends)
                       (new_at (λ v i a. Tells v (λ r. is_finished (state_of a (x r i)))) y.ended old.ended_size _ _ own_ends other_ends old.ends);
                   starts = subst (λ z. (i : ℕ) (a : Role) → i < j + 1 → Tells (get_or z (at i a) 0) (λ r. is_started (state_of a (x r i))))

@@ -48,8 +48,7 @@ fn all_done(job: &Job, copies: &Copies, outcomes: &Outcomes) -> bool
 {
     let n = job.task_count as usize;
     for j in 0..n {
-        let task = job.tasks[j];
-        let by = task.deadline;
+        let by = job.tasks[j].deadline;
         let done = either(
             copies.finish[2 * j] <= by,
             outcomes.ended[2 * j],

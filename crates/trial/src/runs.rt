@@ -92,8 +92,7 @@ fn settle(
     let backup = copies.at(b);
     let own = job.nodes[primary.node as usize];
     let other = job.nodes[backup.node as usize];
-    let task = job.tasks[j];
-    let may = pick(task.ready <= primary.start, fed[p], 0);
+    let may = pick(job.tasks[j].ready <= primary.start, fed[p], 0);
     let ends = may & losses.spared(own.group, primary.finish);
     outcomes.ended[p] = ends;
     outcomes.started[p] = may & losses.spared(own.group, primary.start + 1);
