@@ -10,7 +10,8 @@ use native.Mathlib.Omega.{arith}
 use Rattle.writer.specs.Write.{splice, flat}
 use Rattle.writer.proofs.PutLaws.{splice_none, splice_behind, length_splice}
 use Rattle.decimal.specs.Decimal.{digit_zero, decimal}
-use Rattle.decimal.specs.Prints.{Prints}
+use Rattle.decimal.specs.declared.print.Page.{Page}
+use Rattle.decimal.specs.Prints.{Prints, Grows}
 use Rattle.decimal.proofs.DecimalLaws.{decimal_one, decimal_more, length_one, length_more}
 
 pub prints_none : (d : List ℕ) (at : ℕ) → Prints d at [] d at
@@ -42,12 +43,6 @@ text_copied d s t at k e size room =
     let whole = copied_splice d s t at k e size in
     record { buffer = whole; size = ap length whole ∙ length_splice d s at room; behind = refl }
 
--- a loop that prints rows
-pub rows_more : (row : ℕ → List ℕ) (i : ℕ) {d e g : List ℕ} {at k m : ℕ} → Prints d at (flat i row) e k → Prints e k (row i) g m
-    → Prints d at (flat (i + 1) row) g m
-unfolding flat
-rows_more row i p q = rw add-one (prints_then p q)
-
 -- a number: one digit, or its last digit behind the others
 pub digit_printed : (d : List ℕ) (at v b : ℕ) → v < 10 → b ≡ digit_zero + v → at + length (decimal v) ≤ length d
     → Prints d at (decimal v) (set d at b) (at + 1)
@@ -62,3 +57,18 @@ last_printed {d} {e} {at} {k} v b h p q l =
 
 -- what the search needs of a number printed by its last digit
 pub ruleset digits_put = (length_one, length_more, last_printed)
+
+-- the same on a page
+pub grows_then : {p q r : Page} {a b : List ℕ} → Grows p q a → Grows q r b → Grows p r (a ++ b)
+grows_then g h = record { prints = prints_then g.prints h.prints; same = h.same ∙ g.same }
+
+pub grows_same : {p q : Page} {a b : List ℕ} → a ≡ b → Grows p q a → Grows p q b
+grows_same {p} {q} e = subst (Grows p q) e
+
+-- a loop that prints rows
+pub grows_none : (p : Page) → Grows p p []
+grows_none p = record { prints = prints_none p.buffer.now p.end; same = refl }
+
+pub grows_more : (row : ℕ → List ℕ) (i : ℕ) {p q r : Page} → Grows p q (flat i row) → Grows q r (row i) → Grows p r (flat (i + 1) row)
+unfolding flat
+grows_more row i g h = rw add-one (grows_then g h)

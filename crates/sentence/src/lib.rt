@@ -9,7 +9,7 @@ ghost use Rattle.sentence.specs.Sentence.{max_sentence, Tabled, sentence, print_
 ghost use Rattle.sentence.specs.Reading.{same as same_bytes, shown, read_sentence, reading_of, handed};
 
 use crate::phrase::put_phrases;
-use decimal::print::{put_decimal, put_text};
+use decimal::print::Page;
 use decimal::scan::find;
 use reader::refusal::{Refusal, Told, result_number};
 use writer::send;
@@ -33,10 +33,12 @@ fn put_sentence(d: &mut [u8; MAX_SENTENCE], told: Told) -> usize
     requires { Tabled told }
     ensures { (result ≤ max_sentence) × Prints d.old 0 (sentence told) d.new result }
 {
-    let number = put_text(d, 0, b"Refused ");
-    let word = put_decimal(d, number, told.number as usize);
-    let stop = put_phrases(d, word, told);
-    put_text(d, stop, b".")
+    let mut page = Page { buffer: d, end: 0 };
+    page.put_text(b"Refused ");
+    page.put_decimal(told.number as usize);
+    put_phrases(&mut page, told);
+    page.put_text(b".");
+    page.end
 }
 
 // Prints a refusal's sentence at the front of a buffer.

@@ -1,12 +1,12 @@
 // The fixed phrases of each number of the tables, around the places.
 ghost use Rattle.std.specs.Prelude.{◌+◌, ◌≤◌, ◌≡◌, true, length};
-ghost use Rattle.decimal.specs.Prints.{Prints};
+ghost use Rattle.decimal.specs.Prints.{Grows};
 ghost use Rattle.sentence.specs.Phrases.{spelled, unsaid, mark as mark_of, tabled, row_of};
 ghost use Rattle.sentence.specs.Sentence.{placed, front, phrases};
 
 use crate::LAST_NUMBER;
 use Second::{Again, Another, Nought};
-use decimal::print::{put_decimal, put_text};
+use decimal::print::Page;
 use reader::refusal::Told;
 
 // What the tables have as second place: '/ 0', the first place again, or one to tell.
@@ -176,24 +176,25 @@ fn phrase_of(number: u32) -> Phrase
 }
 
 // Both places among their phrases, the second one unless it goes without saying.
-fn put_placed(d: &mut [u8], at: usize, phrase: Phrase, told: Told) -> usize
-    requires { at + length (placed phrase.second phrase.front.now phrase.effect.now told) ≤ length d.old }
-    ensures { Prints d.old at (placed phrase.second phrase.front.now phrase.effect.now told) d.new result }
+fn put_placed(page: &mut Page<'_>, phrase: Phrase, told: Told)
+    requires { page.old.end + length (placed phrase.second phrase.front.now phrase.effect.now told) ≤ length page.old.buffer.now }
+    ensures { Grows page.old page.new (placed phrase.second phrase.front.now phrase.effect.now told) }
 {
-    let first = put_text(d, at, phrase.front);
-    let middle = put_decimal(d, first, told.first);
-    let behind = put_text(d, middle, phrase.effect);
+    page.put_text(phrase.front);
+    page.put_decimal(told.first);
+    page.put_text(phrase.effect);
     if phrase.second.is_unsaid(told) {
-        return behind;
+        return;
     }
-    let last = put_text(d, behind, phrase.second.mark());
-    put_decimal(d, last, told.second)
+    page.put_text(phrase.second.mark());
+    page.put_decimal(told.second);
 }
 
 // The phrases of any number of the tables, and its places.
-pub fn put_phrases(d: &mut [u8], at: usize, told: Told) -> usize
-    requires { (tabled told.number ≡ true) × (at + length (phrases (row_of told.number) told) ≤ length d.old) }
-    ensures { Prints d.old at (phrases (row_of told.number) told) d.new result }
+pub fn put_phrases(page: &mut Page<'_>, told: Told)
+    requires { (tabled told.number ≡ true)
+        × (page.old.end + length (phrases (row_of told.number) told) ≤ length page.old.buffer.now) }
+    ensures { Grows page.old page.new (phrases (row_of told.number) told) }
 {
-    put_placed(d, at, phrase_of(told.number), told)
+    put_placed(page, phrase_of(told.number), told);
 }

@@ -1,17 +1,16 @@
 // Printing a number and the byte behind it.
-ghost use Rattle.std.specs.Prelude.{◌+◌, ◌≤◌, ◌<◌, ◌≡◌, length};
-ghost use Rattle.decimal.specs.Prints.{Prints};
+ghost use Rattle.std.specs.Prelude.{◌+◌, ◌≤◌, length};
+ghost use Rattle.decimal.specs.Prints.{Grows};
 ghost use Rattle.text.specs.Text.{field, max_field};
 
-use decimal::print::put_decimal;
+use decimal::print::Page;
 
-// A number, and the byte behind it; gives the offset behind both.
+// A number, and the byte behind it.
 #[tactic(auto, using(decimal::proofs::DecimalLaws::digits_most))]
-pub fn put_field(d: &mut [u8], at: usize, v: usize, behind: u8) -> usize
-    requires { at + max_field ≤ length d.old }
-    ensures { (result ≤ at + max_field) × Prints d.old at (field v behind) d.new result }
+pub fn put_field(page: &mut Page<'_>, v: usize, behind: u8)
+    requires { page.old.end + max_field ≤ length page.old.buffer.now }
+    ensures { (page.new.end ≤ page.old.end + max_field) × Grows page.old page.new (field v behind) }
 {
-    let end = put_decimal(d, at, v);
-    d[end] = behind;
-    end + 1
+    page.put_decimal(v);
+    page.put_byte(behind);
 }

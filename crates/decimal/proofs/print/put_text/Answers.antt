@@ -1,7 +1,0 @@
--- `decimal::print::put_text` meets its contract.
-use native.Mathlib.Omega.{arith}
-use Rattle.decimal.proofs.PrintLaws.{text_copied}
-use Rattle.decimal.proofs.print.put_text.Goals as goal
-
-pub returns : goal.returns
-returns c = text_copied _ _ _ _ _ c.copy_from_slice.ensures.after (omega arith) c.requires
