@@ -1,5 +1,7 @@
 // Where a new task would go beside a plan.
-ghost use Rattle.std.specs.Prelude.{◌≡◌};
+ghost use Rattle.std.specs.Prelude.{◌≡◌, ◌<◌, get_or};
+ghost use Rattle.reader.specs.Limits.{max_tasks};
+ghost use Rattle.reader.specs.Entries.{task, group};
 ghost use Rattle.planner.specs.Tasks.{attempted};
 ghost use Rattle.asking.specs.Calls.{Asking};
 ghost use Rattle.asking.specs.Beside.{Takeable, Taken, place_new};
@@ -10,28 +12,24 @@ use planner::board::{Board, Pair};
 use planner::faults::by_group;
 use planner::senders::Incoming;
 use planner::task::Want;
-use reader::job::{Job, Node, Task};
+use reader::job::Job;
 use reader::plan::{Place, Plan};
 use reader::refusal::Refusal;
 use rules::Description;
 
-// Both copies of a task at its place, with its fault set. The chain of the links to it begins at `into`; `own` is the primary's node.
-fn pair_at(
-    links: &Incoming,
-    board: &Board,
-    into: usize,
-    task: Task,
-    place: Place,
-    own: Node,
-) -> Pair
-    requires { Takeable links.now board.now into task place own.group }
-    ensures { Taken links.now board.now into task place own.group result }
+// Both copies of task j of a job at their place, with its fault set, beside what is booked.
+fn pair_at(links: &Incoming, board: &Board, job: &Job, j: usize, place: Place) -> Pair
+    requires { (j < max_tasks) × Takeable links.now board.now (get_or links.now.last j 0) (task job.now j) place
+        (group job.now place.primary_node) }
+    ensures { Taken links.now board.now (get_or links.now.last j 0) (task job.now j) place
+        (group job.now place.primary_node) result }
 {
+    let task = job.tasks[j];
     let q = place.primary_node as usize;
     let r = place.backup_node as usize;
     let p = copy_of(place.primary_node, place.primary_start, task.run[q]);
     let b = copy_of(place.backup_node, place.backup_start, task.run[r]);
-    let set = links.fault_set(board, into, p, own.group);
+    let set = links.fault_set(board, links.last[j] as usize, p, job.nodes[q].group);
     Pair {
         primary: p,
         backup: b,
@@ -51,10 +49,7 @@ pub fn place_new(job: &Job, plan: &Plan, d: &Description) -> Result<Pair, Refusa
     let mut board = Board::empty();
     let n = job.task_count as usize;
     for j in 0..n {
-        let place = plan.places[j];
-        let own = job.nodes[place.primary_node as usize];
-        let at = links.last[j] as usize;
-        let pair = pair_at(&links, &board, at, job.tasks[j], place, own);
+        let pair = pair_at(&links, &board, job, j, plan.places[j]);
         board.book(&job.nodes, j, pair);
     }
     let count = job.node_count as usize;

@@ -29,13 +29,10 @@ pub fn full(tasks: u32, links: u32, new: u32) -> Result<(), Refusal>
         → result ≡ answered (full_fault job d) }
 {
     let n = tasks as usize;
-    if n >= Job::MAX_TASKS {
-        return Err(Refusal::Full(n));
+    if n < Job::MAX_TASKS && (links as usize) + (new as usize) <= Job::MAX_LINKS {
+        return Ok(());
     }
-    if Job::MAX_LINKS < (links as usize) + (new as usize) {
-        return Err(Refusal::Full(n));
-    }
-    Ok(())
+    Err(Refusal::Full(n))
 }
 
 // Where the new task would go beside the plan. Nothing is booked.

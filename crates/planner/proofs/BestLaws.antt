@@ -9,6 +9,7 @@ use lib.ListN.{get_or}
 use borrow.Author.Tests.{leb-true, le-leb, lt-leb, leb-false, ltb-true, ltb-false, lt-ltb, le-ltb}
 use native.Mathlib.Numerals.{add-one}
 use native.Mathlib.Omega.{arith}
+use Rattle.std.specs.Bool.{then_some}
 use Rattle.reader.specs.Tests.{◌and◌}
 use Rattle.reader.specs.First.{◌or_else◌, first, when}
 use Rattle.reader.specs.Limits.{max_nodes}
@@ -22,7 +23,7 @@ use Rattle.copies.specs.Layout.{spots_of}
 use Rattle.planner.specs.declared.inputs.Ready.{Ready}
 use Rattle.planner.specs.declared.search.Search.{Search}
 use Rattle.planner.specs.Inputs.{ready_on}
-use Rattle.planner.specs.Search.{spot, try_at, started_at, on_node, best_of, finish_below, no_place, place_by, sooner_of}
+use Rattle.planner.specs.Search.{found_copy, spot, try_at, started_at, on_node, best_of, finish_below, no_place, place_by, sooner_of}
 use Rattle.planner.specs.Search.{node_ok, fits, sweep, Searched}
 use Rattle.planner.proofs.LeapLaws.{sweep_past, swept, on_node_same, on_node_unable, barred_nothing, unbarred}
 
@@ -194,11 +195,6 @@ pub better_none : (cs : Copies) (m n run from : ℕ) (l : List ℕ) (best : Copy
     → best ≡ sooner_of best n (sweep cs m run l from) run
 better_none cs m n run from l best p = sooner_no best n _ run (omega (arith, sweep_past cs m n run l from))
 
-module _ (best : Copy) (deadline : ℕ) where
-  pub place_yes : best.finish ≤ deadline → some best ≡ place_by best deadline
-  unfolding place_by
-  place_yes p = sym (some_when _ best (le-leb best.finish deadline p))
-
-  pub place_no : deadline < best.finish → none ≡ place_by best deadline
-  unfolding place_by
-  place_no p = sym (none_when _ best (lt-leb best.finish deadline p))
+pub found_if : (best : Copy) (deadline : ℕ) → found_copy (then_some (leb best.finish deadline) best) ≡ place_by best deadline
+unfolding place_by when
+found_if best deadline = split (leb best.finish deadline) (λ e. rw e) (λ e. rw e)

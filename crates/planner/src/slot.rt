@@ -9,7 +9,8 @@ ghost use Rattle.planner.specs.Search.{found_copy, no_place, sooner_of, place_by
 use copies::sets::holds;
 use rules::Copy;
 
-// What a copy that is found must beat, before there is one: it finishes behind the deadline.
+// What a copy that is found must beat, before there is one: it finishes behind the deadline. An Option of a copy, copied for each node, costs more
+// than the search.
 pub fn nowhere(deadline: u32) -> Copy
     requires { deadline ≤ max_time }
     ensures { result ≡ no_place deadline }
@@ -26,10 +27,7 @@ pub fn may_run(run: u32, barred: u32, n: u32) -> bool
     requires { n < max_nodes }
     ensures { result ≡ (ltb 0 run and not (has barred n)) }
 {
-    if run == 0 {
-        return false;
-    }
-    !holds(barred, n)
+    run != 0 && !holds(barred, n)
 }
 
 // The copy on node n from a start on, where it finishes sooner than the best so far.
@@ -51,8 +49,5 @@ pub fn sooner(best: Copy, n: u32, start: u32, run: u32) -> Copy
 pub fn slot_by(best: Copy, deadline: u32) -> Option<Copy>
     ensures { found_copy result ≡ place_by best deadline }
 {
-    if best.finish <= deadline {
-        return Some(best);
-    }
-    None
+    (best.finish <= deadline).then_some(best)
 }

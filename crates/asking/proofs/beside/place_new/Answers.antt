@@ -13,7 +13,7 @@ loop-j-init c =
     c.empty-board.ensures
 
 pub pair_at-pair-requires : goal.pair_at-pair-requires
-pair_at-pair-requires c = old_takeable _ _ _ _ _ _ c.loop-j.invariant c.loop-j-test.true
+pair_at-pair-requires c = (omega (arith, c.requires.sound.tasks_most), old_takeable _ _ _ _ _ _ c.loop-j.invariant c.loop-j-test.true)
 
 pub loop-j-preserved : goal.loop-j-preserved
 loop-j-preserved c =
