@@ -140,10 +140,14 @@ module _ (file : List ℕ) {w : Result Job Refusal} (is : w ≡ read_job file) w
       unfolding files_fault
       plan_stops q = pass _ job_fine ∙ is_fault _ _ _ plan_read q
 
+      pub both_done : {x : Plan} → p ≡ Ok x → FilesDone file plan job x
+      unfolding files_fault
+      both_done q =
+          record { fault = pass _ job_fine ∙ is_none _ _ _ plan_read q; job_is = job_is; plan_is = is_value _ _ _ plan_read q }
+
       pub plan_reads : {x : Plan} → p ≡ Ok x
           → ◌≡◌ {A = Result (Job × Plan) Refusal} (Ok (job, x)) (resulted (files_fault file plan) (job_at file, plan_in file plan))
-      unfolding files_fault
-      plan_reads q = both_given _ (pass _ job_fine ∙ is_none _ _ _ plan_read q) (ap₂ (λ j x. (j, x)) job_is (is_value _ _ _ plan_read q))
+      plan_reads q = let d = both_done q in both_given _ d.fault (ap₂ (λ j x. (j, x)) d.job_is d.plan_is)
 
 -- both, as `read_files` gives them
 module _ (file plan : List ℕ) {w : Result (Job × Plan) Refusal}

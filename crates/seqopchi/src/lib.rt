@@ -27,19 +27,20 @@ use replay::times_file::read_list;
 use rules::Loss;
 use writer::{put_number, put_plan, room};
 
-// A job file, and then a plan file.
+// A job file, and then a plan file, for the crates above. The calls here read both themselves: a job handed on in a pair is copied twice more, 10 KB.
 pub fn read_files(job: &[u8], plan: &[u8]) -> Result<(Job, Plan), Refusal>
     ensures { result ≡ resulted (files_fault job.now plan.now) (job_at job.now, plan_in job.now plan.now) }
 {
     let job = read_job(job)?;
-    let plan = read_plan(plan, job)?;
-    Ok((job, plan))
+    let places = read_plan(plan, &job)?;
+    Ok((job, places))
 }
 
 fn judge_files(job: &[u8], plan: &[u8]) -> Result<(), Refusal>
     ensures { result ≡ answered (judge_files job.now plan.now) }
 {
-    let (job, plan) = read_files(job, plan)?;
+    let job = read_job(job)?;
+    let plan = read_plan(plan, &job)?;
     judge_plan(&job, &plan)
 }
 
@@ -86,7 +87,8 @@ fn replay_files(
     ensures { replay_files job.now plan.now loss (list_of list.entry) out.old
         ≡ record { answer = result; buffer = out.new } }
 {
-    let (job, plan) = read_files(job, plan)?;
+    let job = read_job(job)?;
+    let plan = read_plan(plan, &job)?;
     lost_group(loss, &job)?;
     let times = read_list(&job, &plan, list)?;
     room(out, 12 * (job.task_count as usize))?;
@@ -107,7 +109,8 @@ fn put_sets(out: &mut [u8], sets: &[u32; Copies::COUNT], n: usize)
 fn sets_files(job: &[u8], plan: &[u8], out: &mut [u8]) -> Result<(), Refusal>
     ensures { sets_files job.now plan.now out.old ≡ record { answer = result; buffer = out.new } }
 {
-    let (job, plan) = read_files(job, plan)?;
+    let job = read_job(job)?;
+    let plan = read_plan(plan, &job)?;
     let n = job.task_count as usize;
     room(out, 4 * n)?;
     put_sets(out, &plan_sets(&job, &plan), n);

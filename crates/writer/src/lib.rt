@@ -245,6 +245,6 @@ pub fn write_plan(job: &Job, plan: &Plan, out: &mut [u8]) -> Result<(), Refusal>
     let back = read_job(&scratch[..len])?;
     let plan_len = put_plan(&mut scratch, plan);
     let file = &scratch[..plan_len];
-    read_plan(file, back)?;
+    read_plan(file, &back)?;
     send(file, out)
 }

@@ -9,10 +9,10 @@ returns-in_err-job c = handed _ _ c.from_residual.ensures.1 (job_stops _ c.read_
 pub read_plan-requires : goal.read_plan-requires
 read_plan-requires c = job_sound _ c.read_job.ensures c.in_ok-job.was
 
-pub returns-in_err-plan : goal.returns-in_err-plan
-returns-in_err-plan c =
-    handed _ _ c.from_residual-in_err-plan.ensures.1
-    (plan_stops _ c.read_job.ensures c.in_ok-job.was _ c.read_plan.ensures c.in_err-plan.was)
+pub returns-in_err-places : goal.returns-in_err-places
+returns-in_err-places c =
+    handed _ _ c.from_residual-in_err-places.ensures.1
+    (plan_stops _ c.read_job.ensures c.in_ok-job.was _ c.read_plan.ensures c.in_err-places.was)
 
 pub returns : goal.returns
-returns c = plan_reads _ c.read_job.ensures c.in_ok-job.was _ c.read_plan.ensures c.in_ok-plan.was
+returns c = plan_reads _ c.read_job.ensures c.in_ok-job.was _ c.read_plan.ensures c.in_ok-places.was

@@ -50,4 +50,4 @@ returns c =
     let ps = reads_value c.read_places.ensures c.in_ok-places.was in
     given _
     (whole_fine _ _ _ (is_none _ _ _ e q) (is_value _ _ _ e q) _ (is_none _ _ _ f r) (is_value _ _ _ f r) _ pp ps c.if-end-file.false)
-    (whole_plan _ c.args.job _ (is_none _ _ _ e q) (is_value _ _ _ e q) _ (is_none _ _ _ f r) (is_value _ _ _ f r) _ pp ps)
+    (whole_plan _ c.args.job.now _ (is_none _ _ _ e q) (is_value _ _ _ e q) _ (is_none _ _ _ f r) (is_value _ _ _ f r) _ pp ps)
