@@ -31,7 +31,7 @@ fn read_new_link(file: &[u8], at: usize, tasks: usize, before: Link) -> Result<L
     Err(Refusal::LinkOrder(at))
 }
 
-// The links to the new task, at an offset.
+// The links to the new task, at an offset. A loop of its own beside the reader's: shared by a closure it would have a contract longer than the loop.
 fn read_new_links(
     file: &[u8],
     at: usize,

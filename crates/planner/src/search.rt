@@ -75,12 +75,9 @@ impl Board {
         ensures { found_copy result ≡ best_of search.task.run (suc search.task.deadline)
             (fits self.now search) search.nodes }
     {
-        let task = search.task;
-        let ready = search.ready;
-        let nodes = search.nodes;
-        let mut best = nowhere(task.deadline);
-        for n in 0..nodes {
-            let run = task.run[n];
+        let mut best = nowhere(search.task.deadline);
+        for n in 0..search.nodes {
+            let run = search.task.run[n];
             if may_run(run, search.barred, n as u32) {
                 let ask = Ask {
                     node: n as u32,
@@ -88,10 +85,10 @@ impl Board {
                     set: search.set,
                     run,
                 };
-                let from = ready_on(ready, n as u32).max(search.least);
+                let from = ready_on(search.ready, n as u32).max(search.least);
                 best = self.better(ask, from, best);
             }
         }
-        slot_by(best, task.deadline)
+        slot_by(best, search.task.deadline)
     }
 }
