@@ -49,10 +49,9 @@ pub fn commit(job: &Job, plan: &Plan, d: &Description, place: Place) -> Result<(
     requires { Committing job.now plan.now d.now place }
     ensures { result ≡ committed (commit_of job.now plan.now d.now place) }
 {
-    let big = longer_job(job, d);
-    let long = longer_plan(job, plan, place);
-    match judge_plan(&big, &long) {
-        Ok(()) => Ok((big, long)),
+    let longer = (longer_job(job, d), longer_plan(job, plan, place));
+    match judge_plan(&longer.0, &longer.1) {
+        Ok(()) => Ok(longer),
         Err(_) => Err(Refusal::Stale(job.task_count as usize)),
     }
 }
