@@ -49,12 +49,7 @@ fn new_tasks(
     requires { (count ≤ max_tasks) × (nodes ≤ max_nodes) }
     ensures { result ≡ fill count (new_task seen.now nodes tasks.now) (replicate max_tasks blank_task) }
 {
-    let none = Task {
-        ready: 0,
-        deadline: 0,
-        run: [0; Job::MAX_NODES],
-    };
-    let mut list = [none; Job::MAX_TASKS];
+    let mut list = [Task::BLANK; Job::MAX_TASKS];
     for j in 0..count {
         list[j] = new_task(&tasks[j], j, nodes, seen);
     }
