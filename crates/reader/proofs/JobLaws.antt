@@ -12,7 +12,6 @@ use Rattle.reader.specs.declared.job.Job.{Job}
 use Rattle.reader.specs.declared.job.Node.{Node}
 use Rattle.reader.specs.declared.job.Task.{Task}
 use Rattle.reader.specs.declared.job.Link.{Link}
-use Rattle.reader.specs.declared.job_file.Section.{Section}
 use Rattle.reader.specs.declared.refusal.Refusal.{Refusal}
 use Rattle.reader.specs.declared.refusal.Refusal.TheVariants.{Tail}
 use Rattle.reader.specs.First.{unless}
@@ -37,26 +36,35 @@ pub tail_some : (s : List ℕ) (e : ℕ) → e < length s → tail_fault s e ≡
 unfolding tail_fault unless
 tail_some s e h = rw (lt-leb (length s) e h)
 
+-- a section: how many entries, they themselves, and the offset behind them
+pub record Section (A : Type 0) : Type 0 where
+  pub count : ℕ
+  pub list : List A
+  pub end : ℕ
+
+abbrev pub section : {A : Type 0} → ℕ × ℕ → List A → Section A
+section read list = record { count = read.0; list = list; end = read.1 }
+
 -- what is read so far, each part behind the one before it: the version x, the nodes, the tasks, the links
 pub record VersionRead (s : List ℕ) (x : ℕ) : Type 0 where
   pub fine : version_fault newest_version s ≡ none
   pub is : x ≡ job_version s
 
-pub record NodesRead (s : List ℕ) (x : ℕ) (ns : Section Node max_nodes) : Type 0 where
+pub record NodesRead (s : List ℕ) (x : ℕ) (ns : Section Node) : Type 0 where
   pub version : VersionRead s x
   pub fine : nodes_fault x s ≡ none
   pub count : ns.count ≡ node_count s
   pub list : ns.list ≡ nodes_at x s ns.count
   pub ends : ns.end ≡ task_section x ns.count
 
-pub record TasksRead (s : List ℕ) (x : ℕ) (ns : Section Node max_nodes) (ts : Section Task max_tasks) : Type 0 where
+pub record TasksRead (s : List ℕ) (x : ℕ) (ns : Section Node) (ts : Section Task) : Type 0 where
   pub nodes : NodesRead s x ns
   pub fine : tasks_fault x s ns.end ns.count ≡ none
   pub count : ts.count ≡ number_at s ns.end
   pub list : ts.list ≡ tasks_at x s ns.end ns.count ts.count
   pub ends : ts.end ≡ ns.end + 4 + ts.count * task_width x ns.count
 
-pub record LinksRead (s : List ℕ) (x : ℕ) (ns : Section Node max_nodes) (ts : Section Task max_tasks) (ls : Section Link max_links) : Type 0 where
+pub record LinksRead (s : List ℕ) (x : ℕ) (ns : Section Node) (ts : Section Task) (ls : Section Link) : Type 0 where
   pub tasks : TasksRead s x ns ts
   pub fine : links_fault s ts.end ts.count ≡ none
   pub count : ls.count ≡ number_at s ts.end
@@ -68,26 +76,24 @@ pub version_read : {s : List ℕ} {r : Result ℕ Refusal} {x : ℕ} → r ≡ r
     → VersionRead s x
 version_read is q = record { fine = is_none _ _ _ is q; is = is_value _ _ _ is q }
 
-pub nodes_read : {s : List ℕ} {x : ℕ} {r : Result (Section Node max_nodes) Refusal} {ns : Section Node max_nodes} → VersionRead s x
-    → Reads (nodes_fault x s) r (λ ns. (ns.count ≡ number_at s node_section)
-    × (ns.list ≡ nodes_at x s ns.count) × (ns.end ≡ task_section x ns.count)) → r ≡ Ok ns → NodesRead s x ns
+pub nodes_read : {s : List ℕ} {x : ℕ} {list : List Node} {r : Result (ℕ × ℕ) Refusal} {read : ℕ × ℕ} → VersionRead s x
+    → Reads (nodes_fault x s) r (λ read. (read.0 ≡ number_at s node_section) × (list ≡ nodes_at x s read.0)
+    × (read.1 ≡ task_section x read.0)) → r ≡ Ok read → NodesRead s x (section read list)
 nodes_read v reads q =
     let value = reads_value reads q in
     record { version = v; fine = reads_none reads q; count = value.0; list = value.1; ends = value.2 }
 
 -- the tasks from the part of the file behind the nodes
-pub tasks_read : {s : List ℕ} {x : ℕ} {ns : Section Node max_nodes} {r : Result (Section Task max_tasks) Refusal}
-    {ts : Section Task max_tasks} → NodesRead s x ns
-    → Reads (tasks_fault x s ns.end ns.count) r (λ ts. (ts.count ≡ number_at s ns.end) × (ts.list ≡ tasks_at x s ns.end ns.count ts.count)
-    × (ts.end ≡ ns.end + 4 + ts.count * task_width x ns.count)) → r ≡ Ok ts → TasksRead s x ns ts
+pub tasks_read : {s : List ℕ} {x : ℕ} {ns : Section Node} {list : List Task} {r : Result (ℕ × ℕ) Refusal} {read : ℕ × ℕ} → NodesRead s x ns
+    → Reads (tasks_fault x s ns.end ns.count) r (λ read. (read.0 ≡ number_at s ns.end) × (list ≡ tasks_at x s ns.end ns.count read.0)
+    × (read.1 ≡ ns.end + 4 + read.0 * task_width x ns.count)) → r ≡ Ok read → TasksRead s x ns (section read list)
 tasks_read a reads q =
     let value = reads_value reads q in
     record { nodes = a; fine = reads_none reads q; count = value.0; list = value.1; ends = value.2 }
 
-pub links_read : {s : List ℕ} {x : ℕ} {ns : Section Node max_nodes} {ts : Section Task max_tasks}
-    {r : Result (Section Link max_links) Refusal} {ls : Section Link max_links}
-    → TasksRead s x ns ts → Reads (links_fault s ts.end ts.count) r (λ ls. (ls.count ≡ number_at s ts.end)
-    × (ls.list ≡ links_at s ts.end ls.count) × (ls.end ≡ ts.end + 4 + 12 * ls.count)) → r ≡ Ok ls → LinksRead s x ns ts ls
+pub links_read : {s : List ℕ} {x : ℕ} {ns : Section Node} {ts : Section Task} {list : List Link} {r : Result (ℕ × ℕ) Refusal}
+    {read : ℕ × ℕ} → TasksRead s x ns ts → Reads (links_fault s ts.end ts.count) r (λ read. (read.0 ≡ number_at s ts.end)
+    × (list ≡ links_at s ts.end read.0) × (read.1 ≡ ts.end + 4 + 12 * read.0)) → r ≡ Ok read → LinksRead s x ns ts (section read list)
 links_read b reads q =
     let value = reads_value reads q in
     record { tasks = b; fine = reads_none reads q; count = value.0; list = value.1; ends = value.2 }
@@ -101,7 +107,7 @@ pub bad_nodes : {s : List ℕ} {x : ℕ} {r : Refusal} → VersionRead s x → n
 unfolding job_fault
 bad_nodes {s} {x} {r} v q = pass _ v.fine ∙ stop _ (subst (λ x. nodes_fault x s ≡ some r) v.is q)
 
-module _ {s : List ℕ} {x : ℕ} {ns : Section Node max_nodes} (a : NodesRead s x ns) where
+module _ {s : List ℕ} {x : ℕ} {ns : Section Node} (a : NodesRead s x ns) where
   nodes_fine : nodes_fault (job_version s) s ≡ none
   nodes_fine = subst (λ x. nodes_fault x s ≡ none) a.version.is a.fine
 
@@ -119,7 +125,7 @@ module _ {s : List ℕ} {x : ℕ} {ns : Section Node max_nodes} (a : NodesRead s
   unfolding job_fault
   bad_tasks q = pass _ a.version.fine ∙ pass _ nodes_fine ∙ stop _ (sym tasks_same ∙ q)
 
-module _ {s : List ℕ} {x : ℕ} {ns : Section Node max_nodes} {ts : Section Task max_tasks} (b : TasksRead s x ns ts) where
+module _ {s : List ℕ} {x : ℕ} {ns : Section Node} {ts : Section Task} (b : TasksRead s x ns ts) where
   n_is : ts.count ≡ task_count s
   n_is = b.count ∙ ap (number_at s) (start_is b.nodes)
 
@@ -142,7 +148,7 @@ module _ {s : List ℕ} {x : ℕ} {ns : Section Node max_nodes} {ts : Section Ta
   unfolding job_fault
   bad_links q = pass _ b.nodes.version.fine ∙ pass _ (nodes_fine b.nodes) ∙ pass _ tasks_fine ∙ stop _ (sym links_same ∙ q)
 
-module _ {s : List ℕ} {x : ℕ} {ns : Section Node max_nodes} {ts : Section Task max_tasks} {ls : Section Link max_links} (d : LinksRead s x ns ts ls) where
+module _ {s : List ℕ} {x : ℕ} {ns : Section Node} {ts : Section Task} {ls : Section Link} (d : LinksRead s x ns ts ls) where
   m_is : ls.count ≡ link_count s
   m_is = d.count ∙ ap (number_at s) (behind_is d.tasks)
 

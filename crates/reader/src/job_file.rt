@@ -1,5 +1,5 @@
 // Reading a job file, section by section.
-ghost use Rattle.std.specs.Prelude.{◌≡◌, List, ℕ, ◌+◌, ◌*◌, ◌≤◌, ◌<◌, drop, IfOk};
+ghost use Rattle.std.specs.Prelude.{◌≡◌, List, ℕ, ◌+◌, ◌*◌, ◌≤◌, ◌<◌, drop, replicate, IfOk};
 ghost use Rattle.reader.specs.Limits.{newest_version, max_nodes, min_tasks, max_tasks, max_links};
 ghost use Rattle.reader.specs.Entries.{no_node, no_link, blank_task};
 ghost use Rattle.reader.specs.Number.{number_at, version_fault, value_fault};
@@ -13,14 +13,6 @@ ghost use Rattle.reader.specs.JobFile.{task_fault, task_at, tasks_fault, tasks_a
 use crate::job::{Job, Link, Node, Task};
 use crate::number::{field, field_of_part};
 use crate::refusal::Refusal;
-
-// Entries that were counted and read, and the offset behind them.
-#[derive(Clone, Copy)]
-pub struct Section<T, const N: usize> {
-    pub count: usize,
-    pub list: [T; N],
-    pub end: usize,
-}
 
 // A field from 0 to `high`, at offset `at` where the version has it; where it lacks it, what it counts as.
 fn field_if(
@@ -70,21 +62,26 @@ fn read_node(file: &[u8], version: usize, number: u32, at: usize) -> Result<(Nod
     Ok((node, then + width_if(has_group)))
 }
 
-// The node section.
-fn read_nodes(file: &[u8], version: usize) -> Result<Section<Node, { Job::MAX_NODES }>, Refusal>
-    ensures count_le_max_nodes { IfOk result (λ nodes. (nodes.count ≤ max_nodes) × (nodes.end ≤ 1024)) }
-    ensures reads { Reads (nodes_fault version file.now) result (λ nodes. (nodes.count ≡ number_at file.now node_section)
-        × (nodes.list ≡ nodes_at version file.now nodes.count) × (nodes.end ≡ task_section version nodes.count)) }
+// The node section, into a list without nodes; gives how many there are, and the offset behind them. A list is filled where it lies: as a part of a
+// Result it is copied at each `?`, and reading the longest job took 1.4 times as long.
+fn read_nodes(
+    file: &[u8],
+    version: usize,
+    list: &mut [Node; Job::MAX_NODES],
+) -> Result<(usize, usize), Refusal>
+    requires { list.old ≡ replicate max_nodes no_node }
+    ensures count_le_max_nodes { IfOk result (λ read. (read.0 ≤ max_nodes) × (read.1 ≤ 1024)) }
+    ensures reads { Reads (nodes_fault version file.now) result (λ read. (read.0 ≡ number_at file.now node_section)
+        × (list.new ≡ nodes_at version file.now read.0) × (read.1 ≡ task_section version read.0)) }
 {
     let count = field(file, 4, Job::MIN_NODES, Job::MAX_NODES, Refusal::Count(4))? as usize;
-    let mut list = [Node::BLANK; Job::MAX_NODES];
     let mut end: usize = 8;
     for i in 0..count {
         let (node, behind) = read_node(file, version, i as u32, end)?;
         list[i] = node;
         end = behind;
     }
-    Ok(Section { count, list, end })
+    Ok((count, end))
 }
 
 // A run time for each node, from offset `at`; the part begins at offset `base` of the file.
@@ -139,18 +136,19 @@ pub fn read_task(
     Ok((task, then + 4 + 4 * nodes))
 }
 
-// The task section, with which the part begins.
+// The task section, with which the part begins, into a list without tasks; gives how many there are, and the offset behind them.
 fn read_tasks(
     part: &[u8],
     base: usize,
     version: usize,
     nodes: usize,
-) -> Result<Section<Task, { Job::MAX_TASKS }>, Refusal>
-    requires { (base ≤ 1024) × (nodes ≤ max_nodes) }
-    ensures count_le_max_tasks { IfOk result (λ tasks. (tasks.count ≤ max_tasks) × (tasks.end ≤ 8192)) }
+    list: &mut [Task; Job::MAX_TASKS],
+) -> Result<(usize, usize), Refusal>
+    requires { (base ≤ 1024) × (nodes ≤ max_nodes) × (list.old ≡ replicate max_tasks blank_task) }
+    ensures count_le_max_tasks { IfOk result (λ read. (read.0 ≤ max_tasks) × (read.1 ≤ 8192)) }
     ensures by_index { (file : List ℕ) → drop base file ≡ part.now → Reads (tasks_fault version file base nodes) result
-        (λ tasks. (tasks.count ≡ number_at file base) × (tasks.list ≡ tasks_at version file base nodes tasks.count)
-        × (tasks.end ≡ base + 4 + tasks.count * task_width version nodes)) }
+        (λ read. (read.0 ≡ number_at file base) × (list.new ≡ tasks_at version file base nodes read.0)
+        × (read.1 ≡ base + 4 + read.0 * task_width version nodes)) }
 {
     let count = field_of_part(
         part,
@@ -160,14 +158,13 @@ fn read_tasks(
         Job::MAX_TASKS,
         Refusal::Count(base),
     )? as usize;
-    let mut list = [Task::BLANK; Job::MAX_TASKS];
     let mut end = base + 4;
     for i in 0..count {
         let (task, behind) = read_task(part, base, version, end, nodes)?;
         list[i] = task;
         end = behind;
     }
-    Ok(Section { count, list, end })
+    Ok((count, end))
 }
 
 // Whether link l stands below link m: by from, then to.
@@ -193,26 +190,25 @@ fn read_link(file: &[u8], at: usize, tasks: usize, before: Link) -> Result<Link,
     Err(Refusal::LinkOrder(at))
 }
 
-// The link section at an offset.
+// The link section at an offset, into a list without links; gives how many there are, and the offset behind them.
 fn read_links(
     file: &[u8],
     at: usize,
     tasks: usize,
-) -> Result<Section<Link, { Job::MAX_LINKS }>, Refusal>
-    requires { (at ≤ 8192) × (min_tasks ≤ tasks) × (tasks ≤ max_tasks) }
-    ensures count_le_max_links { IfOk result (λ links. links.count ≤ max_links) }
-    ensures reads { Reads (links_fault file.now at tasks) result (λ links. (links.count ≡ number_at file.now at)
-        × (links.list ≡ links_at file.now at links.count) × (links.end ≡ at + 4 + 12 * links.count)) }
+    list: &mut [Link; Job::MAX_LINKS],
+) -> Result<(usize, usize), Refusal>
+    requires { (at ≤ 8192) × (min_tasks ≤ tasks) × (tasks ≤ max_tasks) × (list.old ≡ replicate max_links no_link) }
+    ensures count_le_max_links { IfOk result (λ read. read.0 ≤ max_links) }
+    ensures reads { Reads (links_fault file.now at tasks) result (λ read. (read.0 ≡ number_at file.now at)
+        × (list.new ≡ links_at file.now at read.0) × (read.1 ≡ at + 4 + 12 * read.0)) }
 {
     let count = field(file, at, 0, Job::MAX_LINKS, Refusal::Count(at))? as usize;
-    let mut list = [Link::BLANK; Job::MAX_LINKS];
     let mut before = Link::BLANK;
     for k in 0..count {
         before = read_link(file, at + 4 + 12 * k, tasks, before)?;
         list[k] = before;
     }
-    let end = at + 4 + 12 * count;
-    Ok(Section { count, list, end })
+    Ok((count, at + 4 + 12 * count))
 }
 
 // The version, up to the newest that this reader knows.
@@ -232,23 +228,23 @@ fn read_version(file: &[u8]) -> Result<u32, Refusal>
 pub fn read_job(file: &[u8]) -> Result<Job, Refusal>
     ensures { result ≡ read_job file.now }
 {
+    let mut job = Job::empty();
     let version = read_version(file)?;
-    let nodes = read_nodes(file, version as usize)?;
-    let start = nodes.end;
-    let tasks = read_tasks(&file[start..], start, version as usize, nodes.count)?;
-    let links = read_links(file, tasks.end, tasks.count)?;
-    let end = links.end;
+    let (nodes, start) = read_nodes(file, version as usize, &mut job.nodes)?;
+    let (tasks, behind) = read_tasks(
+        &file[start..],
+        start,
+        version as usize,
+        nodes,
+        &mut job.tasks,
+    )?;
+    let (links, end) = read_links(file, behind, tasks, &mut job.links)?;
     if end < file.len() {
         return Err(Refusal::Tail(end));
     }
-    let (node_list, task_list, link_list) = (nodes.list, tasks.list, links.list);
-    Ok(Job {
-        version,
-        node_count: nodes.count as u32,
-        nodes: node_list,
-        task_count: tasks.count as u32,
-        tasks: task_list,
-        link_count: links.count as u32,
-        links: link_list,
-    })
+    job.version = version;
+    job.node_count = nodes as u32;
+    job.task_count = tasks as u32;
+    job.link_count = links as u32;
+    Ok(job)
 }

@@ -17,7 +17,7 @@ unfolding link_before
 loop-k-init c =
     let e = c.field.ensures in
     let q = c.in_ok-count.was in
-    ((is_good _ _ _ _ _ _ e q).1, refl, read_begin _ _ _ _ _ _ _ (is_none _ _ _ e q) (is_value _ _ _ e q) refl)
+    ((is_good _ _ _ _ _ _ e q).1, refl, read_begin _ _ _ _ _ _ _ (is_none _ _ _ e q) (is_value _ _ _ e q) c.requires.3)
 
 pub read_link-requires : goal.read_link-requires
 read_link-requires c = (omega (arith, c.loop-k.invariant.0), c.requires.1, c.requires.2)

@@ -17,7 +17,7 @@ loop-i-init c =
     let q = c.in_ok-count.was in (
       (is_good _ _ _ _ _ _ e q).1,
       omega arith,
-      rows_begin _ _ _ _ _ _ _ _ _ (is_none _ _ _ e q) (is_value _ _ _ e q) refl,
+      rows_begin _ _ _ _ _ _ _ _ _ (is_none _ _ _ e q) (is_value _ _ _ e q) c.requires,
     )
 
 pub read_node-requires : goal.read_node-requires

@@ -24,7 +24,7 @@ loop-i-init c =
       (is_good _ _ _ _ _ _ (e _ (some_file args.base args.part.now)) q).1,
       omega arith,
       omega arith,
-      λ file part. rows_begin _ _ _ _ _ _ _ _ _ (is_none _ _ _ (e file part) q) (is_value _ _ _ (e file part) q) refl,
+      λ file part. rows_begin _ _ _ _ _ _ _ _ _ (is_none _ _ _ (e file part) q) (is_value _ _ _ (e file part) q) c.requires.2,
     )
 
 pub read_task-requires : goal.read_task-requires
