@@ -9,11 +9,9 @@ use Rattle.std.specs.Prelude.{Result, Ok}
 use Rattle.reader.specs.declared.job.Job.{Job}
 use Rattle.reader.specs.declared.job.Link.{Link}
 use Rattle.reader.specs.declared.job.Task.{Task}
-use Rattle.reader.specs.declared.job_file.Section.{Section}
 use Rattle.reader.specs.declared.plan.Place.{Place}
 use Rattle.reader.specs.declared.refusal.Refusal.{Refusal}
 use Rattle.reader.specs.declared.refusal.Refusal.TheVariants.{Tail}
-use Rattle.reader.specs.Limits.{max_links}
 use Rattle.reader.specs.Entries.{nodes, tasks}
 use Rattle.reader.specs.Number.{number_at}
 use Rattle.reader.specs.Reads.{Reads}
@@ -53,11 +51,11 @@ module _ {s : List ℕ} {job : Job} {t : Task} {at : ℕ} (task : TaskRead s job
   unfolding description_fault
   bad_links q = pass _ task.fine ∙ sym links_same ∙ q
 
-  module _ {w : Result (Section Link max_links) Refusal} {ls : Section Link max_links} (reads : Reads (new_links_fault s at (tasks job)) w
-      (λ ls. (ls.count ≤ max_links) × (ls.count ≡ number_at s at) × (ls.list ≡ new_links_at s at (tasks job) ls.count)
-      × (ls.end ≡ at + 4 + 8 * ls.count))) (q : w ≡ Ok ls) where
+  module _ {w : Result (ℕ × ℕ) Refusal} {count end : ℕ} {list : List Link} (reads : Reads (new_links_fault s at (tasks job)) w
+      (λ read. (read.0 ≡ number_at s at) × (list ≡ new_links_at s at (tasks job) read.0) × (read.1 ≡ at + 4 + 8 * read.0)))
+      (q : w ≡ Ok (count, end)) where
     abbrev read : Description
-    read = record { task = t; link_count = ls.count; links = ls.list }
+    read = record { task = t; link_count = count; links = list }
 
     is : read ≡ description_at s job
     unfolding description_at
@@ -65,16 +63,16 @@ module _ {s : List ℕ} {job : Job} {t : Task} {at : ℕ} (task : TaskRead s job
         let value = reads_value reads q in
         let ends = task.ends in
         let entry = task.is in
-        let count = value.1 in
-        let list = value.2 in
+        let count = value.0 in
+        let list = value.1 in
         cc
 
-    ends : ls.end ≡ description_length s job
+    ends : end ≡ description_length s job
     ends =
         let value = reads_value reads q in
-        value.3 ∙ ap₂ (λ at m. at + 4 + 8 * m) task.ends (value.1 ∙ ap (number_at s) task.ends)
+        value.2 ∙ ap₂ (λ at m. at + 4 + 8 * m) task.ends (value.0 ∙ ap (number_at s) task.ends)
 
-    pub described : Reads {A = Description × ℕ} (description_fault s job) (Ok (read, ls.end))
+    pub described : Reads {A = Description × ℕ} (description_fault s job) (Ok (read, end))
         (λ x. (x.0 ≡ description_at s job) × (x.1 ≡ description_length s job))
     unfolding description_fault
     described = finished (pass _ task.fine ∙ sym links_same ∙ reads_none reads q) (is, ends)

@@ -1,15 +1,16 @@
 // Reading the description of an extra task, after its job.
-ghost use Rattle.std.specs.Prelude.{◌≡◌, ◌+◌, ◌*◌, ◌≤◌, IfOk};
+ghost use Rattle.std.specs.Prelude.{◌≡◌, ◌+◌, ◌*◌, ◌≤◌, replicate, IfOk};
 ghost use Rattle.reader.specs.declared.job.Job.{Job};
 ghost use Rattle.reader.specs.Limits.{min_tasks, max_tasks, max_links};
 ghost use Rattle.reader.specs.Number.{number_at};
+ghost use Rattle.reader.specs.Entries.{no_link};
 ghost use Rattle.reader.specs.Reads.{Reads};
 ghost use Rattle.asking.specs.Sizes.{Sizes, sized};
 ghost use Rattle.asking.specs.DescriptionFile.{new_link_fault, new_link_at, new_links_fault, new_links_at};
 ghost use Rattle.asking.specs.DescriptionFile.{description_fault, description_at, description_length, question_fault, booking_fault, booked_place};
 
 use reader::job::{Job, Link};
-use reader::job_file::{Section, below, read_task};
+use reader::job_file::{below, read_task};
 use reader::number::field;
 use reader::plan::Place;
 use reader::plan_file::read_place;
@@ -31,26 +32,26 @@ fn read_new_link(file: &[u8], at: usize, tasks: usize, before: Link) -> Result<L
     Err(Refusal::LinkOrder(at))
 }
 
-// The links to the new task, at an offset. A loop of its own beside the reader's: shared by a closure it would have a contract longer than the loop.
+// The links to the new task, at an offset, into a list without links; gives how many there are, and the offset behind them. A loop of its own beside
+// the reader's: shared by a closure it would have a contract longer than the loop.
 fn read_new_links(
     file: &[u8],
     at: usize,
     tasks: usize,
-) -> Result<Section<Link, { Job::MAX_LINKS }>, Refusal>
-    requires { (at ≤ 8192) × (min_tasks ≤ tasks) × (tasks ≤ max_tasks) }
-    ensures { Reads (new_links_fault file.now at tasks) result
-        (λ links. (links.count ≤ max_links) × (links.count ≡ number_at file.now at)
-        × (links.list ≡ new_links_at file.now at tasks links.count) × (links.end ≡ at + 4 + 8 * links.count)) }
+    list: &mut [Link; Job::MAX_LINKS],
+) -> Result<(usize, usize), Refusal>
+    requires { (at ≤ 8192) × (min_tasks ≤ tasks) × (tasks ≤ max_tasks) × (list.old ≡ replicate max_links no_link) }
+    ensures count_le_max_links { IfOk result (λ read. read.0 ≤ max_links) }
+    ensures reads { Reads (new_links_fault file.now at tasks) result (λ read. (read.0 ≡ number_at file.now at)
+        × (list.new ≡ new_links_at file.now at tasks read.0) × (read.1 ≡ at + 4 + 8 * read.0)) }
 {
     let count = field(file, at, 0, Job::MAX_LINKS, Refusal::Count(at))? as usize;
-    let mut list = [Link::BLANK; Job::MAX_LINKS];
     let mut before = Link::BLANK;
     for k in 0..count {
         before = read_new_link(file, at + 4 + 8 * k, tasks, before)?;
         list[k] = before;
     }
-    let end = at + 4 + 8 * count;
-    Ok(Section { count, list, end })
+    Ok((count, at + 4 + 8 * count))
 }
 
 // The task's entry, then its links; and the offset behind them. The three numbers are the job's: the job itself would be copied.
@@ -67,14 +68,14 @@ fn read_description(
         × (read.1 ≡ description_length file.now (sized job version nodes tasks))) }
 {
     let (task, at) = read_task(file, 0, version, 0, nodes)?;
-    let links = read_new_links(file, at, tasks)?;
-    let list = links.list;
-    let description = Description {
+    let mut description = Description {
         task,
-        link_count: links.count as u32,
-        links: list,
+        link_count: 0,
+        links: [Link::BLANK; Job::MAX_LINKS],
     };
-    Ok((description, links.end))
+    let (links, end) = read_new_links(file, at, tasks, &mut description.links)?;
+    description.link_count = links as u32;
+    Ok((description, end))
 }
 
 // What is asked: a description, and nothing behind it.

@@ -15,7 +15,7 @@ use Rattle.reader.specs.declared.job.Link.{Link}
 use Rattle.reader.specs.declared.refusal.Refusal.{Refusal}
 use Rattle.reader.specs.declared.refusal.Refusal.TheVariants.{Tail}
 use Rattle.reader.specs.First.{unless}
-use Rattle.reader.specs.Limits.{newest_version, min_tasks, max_nodes, max_tasks, max_links}
+use Rattle.reader.specs.Limits.{newest_version, min_tasks}
 use Rattle.reader.specs.Number.{number_at, version_fault}
 use Rattle.reader.specs.JobFile.{job_version, task_width, node_section, task_section, link_section, job_length, node_count, task_count, link_count, nodes_fault}
 use Rattle.reader.specs.JobFile.{nodes_at, tasks_fault, tasks_at, links_fault, links_at, tail_fault, job_fault, job_at}

@@ -15,18 +15,15 @@ pub returns-in_err-links-clause-reads : goal.returns-in_err-links-clause-reads
 returns-in_err-links-clause-reads c =
     λ job.
     let task = task_read {job = sized job _ _ _} (c.read_task.ensures.by_index _ refl) c.in_ok-task.was in
-    stopped _ c.from_residual-in_err-links.ensures.1 (bad_links task (reads_some c.read_new_links.ensures c.in_err-links.was))
-
-pub overflow_cast-description : goal.overflow_cast-description
-overflow_cast-description c = omega (arith, (reads_value c.read_new_links.ensures c.in_ok-links.was).0)
+    stopped _ c.from_residual-in_err-links.ensures.1 (bad_links task (reads_some c.read_new_links.ensures.reads c.in_err-links.was))
 
 pub returns-clause-end_bound : goal.returns-clause-end_bound
 returns-clause-end_bound c =
-    let links = reads_value c.read_new_links.ensures c.in_ok-links.was in
-    omega (arith, c.in_ok-task.ensures.end_bound, links.0, links.3)
+    let links = reads_value c.read_new_links.ensures.reads c.in_ok-links.was in
+    omega (arith, c.in_ok-task.ensures.end_bound, c.in_ok-links.ensures.count_le_max_links, links.2)
 
 pub returns-clause-reads : goal.returns-clause-reads
 returns-clause-reads c =
     λ job.
     let task = task_read {job = sized job _ _ _} (c.read_task.ensures.by_index _ refl) c.in_ok-task.was in
-    described task c.read_new_links.ensures c.in_ok-links.was
+    described task c.read_new_links.ensures.reads c.in_ok-links.was

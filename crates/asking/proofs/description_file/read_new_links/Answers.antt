@@ -8,20 +8,20 @@ use Rattle.reader.proofs.ReadLoop.{read_begin, read_more, read_stop, read_fine, 
 use Rattle.asking.proofs.NewLinkLaws.{new_before_more, new_behind_same}
 use Rattle.asking.proofs.description_file.read_new_links.Goals as goal
 
-pub returns-in_err-count : goal.returns-in_err-count
+pub returns-in_err-count-clause-reads : goal.returns-in_err-count-clause-reads
 unfolding new_links_fault
-returns-in_err-count c = stopped _ c.from_residual.ensures.1 (stop _ (is_fault _ _ _ c.field.ensures c.in_err-count.was))
+returns-in_err-count-clause-reads c = stopped _ c.from_residual.ensures.1 (stop _ (is_fault _ _ _ c.field.ensures c.in_err-count.was))
 
 pub loop-k-init : goal.loop-k-init
 unfolding new_link_before
 loop-k-init c =
     let e = c.field.ensures in
     let q = c.in_ok-count.was in
-    ((is_good _ _ _ _ _ _ e q).1, refl, read_begin _ _ _ _ _ _ _ (is_none _ _ _ e q) (is_value _ _ _ e q) refl)
+    ((is_good _ _ _ _ _ _ e q).1, refl, read_begin _ _ _ _ _ _ _ (is_none _ _ _ e q) (is_value _ _ _ e q) c.requires.3)
 
-pub returns-in_err-before : goal.returns-in_err-before
+pub returns-in_err-before-clause-reads : goal.returns-in_err-before-clause-reads
 unfolding new_links_fault
-returns-in_err-before c =
+returns-in_err-before-clause-reads c =
     let l = c.loop-k.invariant in
     let bad = reads_some c.read_new_link.ensures c.in_err-before.was in
     stopped _ c.from_residual-in_err-before.ensures.1
@@ -34,9 +34,12 @@ loop-k-preserved c =
     let value = reads_value c.read_new_link.ensures c.in_ok-before.was in
     (l.0, new_before_more _ _ _ _ _ value, read_more _ _ _ _ _ _ _ _ l.2 _ c.loop-k-test.true (new_behind_same _ _ _ l.1 fine) value)
 
-pub returns : goal.returns
+pub returns-clause-count_le_max_links : goal.returns-clause-count_le_max_links
+returns-clause-count_le_max_links c = c.loop-k.invariant.0
+
+pub returns-clause-reads : goal.returns-clause-reads
 unfolding new_links_fault new_links_at
-returns c =
+returns-clause-reads c =
     let l = c.loop-k.invariant in
     let rows = read_end _ _ _ _ _ _ _ _ l.2 (omega arith) in
-    finished (read_fine _ _ _ _ _ _ _ _ l.2 (omega arith)) (l.0, rows.0, rows.1, refl)
+    finished (read_fine _ _ _ _ _ _ _ _ l.2 (omega arith)) (rows.0, rows.1, refl)

@@ -1,5 +1,4 @@
 -- `reader::job_file::read_nodes` meets its contract.
-use mathlib.Core.Path.{refl}
 use native.Mathlib.Omega.{arith}
 use Rattle.reader.specs.JobFile.{nodes_fault, nodes_at}
 use Rattle.reader.proofs.NumberLaws.{is_none, is_value, is_fault, is_good}
