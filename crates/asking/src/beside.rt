@@ -10,7 +10,7 @@ use crate::longer::merged_links;
 use judge::tasks::copy_of;
 use planner::board::{Board, Pair};
 use planner::faults::by_group;
-use planner::senders::Incoming;
+use planner::senders::{Incoming, Senders};
 use planner::task::Want;
 use reader::job::Job;
 use reader::plan::{Place, Plan};
@@ -29,7 +29,12 @@ fn pair_at(links: &Incoming, board: &Board, job: &Job, j: usize, place: Place) -
     let r = place.backup_node as usize;
     let p = copy_of(place.primary_node, place.primary_start, task.run[q]);
     let b = copy_of(place.backup_node, place.backup_start, task.run[r]);
-    let set = links.fault_set(board, links.last[j] as usize, p, job.nodes[q].group);
+    let inputs = Senders {
+        links,
+        board,
+        left: links.last[j] as usize,
+    };
+    let set = inputs.fault_set(p, job.nodes[q].group);
     Pair {
         primary: p,
         backup: b,

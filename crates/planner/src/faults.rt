@@ -4,8 +4,7 @@ ghost use Rattle.reader.specs.Limits.{max_group};
 ghost use Rattle.planner.specs.Senders.{Sending};
 ghost use Rattle.planner.specs.Faults.{Faulted, Groups, Peers};
 
-use crate::board::Board;
-use crate::senders::Incoming;
+use crate::senders::Senders;
 use copies::arrival::in_time;
 use copies::gather::gather_task;
 use copies::sets::{bit_of, late_bit};
@@ -13,18 +12,17 @@ use copies::table::Copies;
 use reader::job::{Job, Node};
 use rules::Copy;
 
-impl Incoming {
-    // Of a task with this primary, on a node of this group: once it has one its set is that group, and the links to it, whose chain begins at `last`,
-    // are gathered.
-    pub fn fault_set(&self, board: &Board, last: usize, primary: Copy, group: u32) -> u32
-        requires { Sending self.now board.now last × (group ≤ max_group) }
-        ensures { Faulted self.now board.now last primary group result }
+impl<'a> Senders<'a> {
+    // Of the task that they send to, with this primary, on a node of this group: once it has one its set is that group, and the links are gathered.
+    pub fn fault_set(self, primary: Copy, group: u32) -> u32
+        requires { Sending self.links.now self.board.now self.left × (group ≤ max_group) }
+        ensures { Faulted self.entry.links.now self.entry.board.now self.entry.left primary group result }
     {
         let mut weak: u64 = 0;
-        for x in self.senders(board, last) {
+        for x in self {
             weak |= late_bit(in_time(x.backup, primary), x.task);
         }
-        gather_task(&board.copies.set, bit_of(group), weak)
+        gather_task(&self.board.copies.set, bit_of(group), weak)
     }
 }
 

@@ -3,8 +3,7 @@ ghost use Rattle.std.specs.Prelude.{◌≡◌};
 ghost use Rattle.planner.specs.Senders.{Sending};
 ghost use Rattle.planner.specs.Inputs.{ready_on, farther_of, Reached, Owned, Given};
 
-use crate::board::Board;
-use crate::senders::Incoming;
+use crate::senders::Senders;
 use copies::arrival::{arrival, pick};
 
 // The latest arrival, where it is not on the node that it leaves; and that node.
@@ -41,15 +40,14 @@ pub fn farther(reach: Reach, from: u32, at: u32) -> Reach
     reach
 }
 
-impl Incoming {
-    // The latest arrival for a copy of this set, by the links whose chain begins at `last`. Each sender's primary counts, and its backup where
-    // the two sets meet.
-    pub fn farthest(&self, board: &Board, last: usize, set: u32) -> Reach
-        requires { Sending self.now board.now last }
-        ensures { Reached self.now board.now last set result }
+impl<'a> Senders<'a> {
+    // The latest arrival for a copy of this set. Each sender's primary counts, and its backup where the two sets meet.
+    pub fn farthest(self, set: u32) -> Reach
+        requires { Sending self.links.now self.board.now self.left }
+        ensures { Reached self.entry.links.now self.entry.board.now self.entry.left set result }
     {
         let mut reach = Reach { at: 0, from: 0 };
-        for x in self.senders(board, last) {
+        for x in self {
             let p = x.primary;
             let b = x.backup;
             let half = farther(reach, p.node, p.away);
@@ -60,12 +58,12 @@ impl Incoming {
     }
 
     // From when the same inputs are on node `to`.
-    pub fn own_time(&self, board: &Board, last: usize, set: u32, to: u32) -> u32
-        requires { Sending self.now board.now last }
-        ensures { Owned self.now board.now last set to result }
+    pub fn own_time(self, set: u32, to: u32) -> u32
+        requires { Sending self.links.now self.board.now self.left }
+        ensures { Owned self.entry.links.now self.entry.board.now self.entry.left set to result }
     {
         let mut own: u32 = 0;
-        for x in self.senders(board, last) {
+        for x in self {
             let half = own.max(arrival(x.primary, to));
             let late = arrival(x.backup, to);
             own = half.max(pick(x.set & set != 0, late, 0));
@@ -74,12 +72,12 @@ impl Incoming {
     }
 
     // For a copy of this set, from when its inputs are on each node.
-    pub fn gather(&self, board: &Board, last: usize, set: u32) -> Ready
-        requires { Sending self.now board.now last }
-        ensures { Given self.now board.now last set result }
+    pub fn gather(self, set: u32) -> Ready
+        requires { Sending self.links.now self.board.now self.left }
+        ensures { Given self.entry.links.now self.entry.board.now self.entry.left set result }
     {
-        let far = self.farthest(board, last, set);
-        let own = self.own_time(board, last, set, far.from);
+        let far = self.farthest(set);
+        let own = self.own_time(set, far.from);
         Ready {
             node: far.from,
             own,

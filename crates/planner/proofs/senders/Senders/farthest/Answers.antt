@@ -1,16 +1,13 @@
--- `planner::senders::Incoming::farthest` meets its contract.
-use mathlib.Core.Path.{refl, ap, ◌∙◌}
+-- `planner::senders::Senders::farthest` meets its contract.
+use mathlib.Core.Path.{refl}
 use Rattle.planner.proofs.SenderLaws.{over_next, next_sender}
 use Rattle.planner.proofs.InputLaws.{reaching_start, reaching_more, reaching_done}
-use Rattle.planner.proofs.senders.Incoming.farthest.Goals as goal
+use Rattle.planner.proofs.senders.Senders.farthest.Goals as goal
 
 pub loop-x-init : goal.loop-x-init
 loop-x-init c =
     let made = c.into_iter-x-iterator.ensures.into_iter_gives in
-    let s = c.senders-x-items.ensures in (
-      record { net_is = ap (λ i. i.links.now) made ∙ s.links; board_is = ap (λ i. i.board.now) made ∙ s.board },
-      rw (ap (λ i. i.left) made ∙ s.left) (reaching_start _ _ _ _ c.requires _ refl),
-    )
+    rw made (record { net_is = refl; board_is = refl }, reaching_start _ _ _ _ c.requires _ refl)
 
 pub loop-x-preserved : goal.loop-x-preserved
 loop-x-preserved c =

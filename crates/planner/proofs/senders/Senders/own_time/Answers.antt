@@ -1,16 +1,13 @@
--- `planner::senders::Incoming::own_time` meets its contract.
-use mathlib.Core.Path.{ap, ◌∙◌}
+-- `planner::senders::Senders::own_time` meets its contract.
+use mathlib.Core.Path.{refl}
 use Rattle.planner.proofs.SenderLaws.{over_next, next_sender}
 use Rattle.planner.proofs.InputLaws.{owning_start, owning_more, owning_done}
-use Rattle.planner.proofs.senders.Incoming.own_time.Goals as goal
+use Rattle.planner.proofs.senders.Senders.own_time.Goals as goal
 
 pub loop-x-init : goal.loop-x-init
 loop-x-init c =
     let made = c.into_iter-x-iterator.ensures.into_iter_gives in
-    let s = c.senders-x-items.ensures in (
-      record { net_is = ap (λ i. i.links.now) made ∙ s.links; board_is = ap (λ i. i.board.now) made ∙ s.board },
-      rw (ap (λ i. i.left) made ∙ s.left) (owning_start _ _ _ _ c.requires _),
-    )
+    rw made (record { net_is = refl; board_is = refl }, owning_start _ _ _ _ c.requires _)
 
 pub loop-x-preserved : goal.loop-x-preserved
 loop-x-preserved c =
