@@ -9,13 +9,11 @@ use lib.Dec.{ltb, eqb}
 use lib.ListN.{get_or, set, length, replicate, length-set}
 use lib.Seq.{get_or-set_same, get_or-set_other}
 use borrow.Author.Tests.{eqb-true, eqb-false, eq-eqb, ltb-true, lt-ltb, le-ltb}
-use Rattle.reader.specs.declared.job.Job.{Job}
 use Rattle.reader.specs.declared.job.Node.{Node}
 use Rattle.reader.specs.Tests.{◌and◌, ◌or◌}
 use Rattle.reader.specs.First.{any}
 use Rattle.reader.specs.Limits.{max_group, max_tasks}
-use Rattle.reader.specs.Entries.{nodes, no_node}
-use Rattle.reader.specs.Sound.{Sound}
+use Rattle.reader.specs.Entries.{no_node}
 use Rattle.reader.proofs.TestLaws.{split, below_suc, and_i, and_l, and_r, and_unless, or_l, or_r, or_e, same_test}
 use Rattle.reader.proofs.FirstLaws.{any_i, any_e}
 use Rattle.copies.specs.Sets.{has}
@@ -23,10 +21,7 @@ use Rattle.copies.specs.Gathered.{joined}
 use Rattle.copies.specs.Table.{copy_count}
 use Rattle.copies.proofs.ListMore.{replicated}
 use Rattle.copies.proofs.SetLaws.{has_none, has_one, has_union}
-use Rattle.planner.specs.Faults.{Groups, Peers}
-
-pub job_groups : (job : Job) → Sound job → Groups job.nodes (nodes job)
-job_groups job sound = record { few = sound.nodes_most; most = sound.group_most }
+use Rattle.planner.specs.Faults.{Peers}
 
 module _ (list : List Node) where
   abbrev group : ℕ → ℕ

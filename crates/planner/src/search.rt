@@ -75,9 +75,11 @@ impl Board {
         ensures { found_copy result ≡ best_of search.task.run (suc search.task.deadline)
             (fits self.now search) search.nodes }
     {
-        let mut best = nowhere(search.task.deadline);
+        // the task by itself: where it is read in the search, planning takes a tenth more
+        let task = search.task;
+        let mut best = nowhere(task.deadline);
         for n in 0..search.nodes {
-            let run = search.task.run[n];
+            let run = task.run[n];
             if may_run(run, search.barred, n as u32) {
                 let ask = Ask {
                     node: n as u32,
@@ -89,6 +91,6 @@ impl Board {
                 best = self.better(ask, from, best);
             }
         }
-        slot_by(best, search.task.deadline)
+        slot_by(best, task.deadline)
     }
 }
