@@ -1,14 +1,14 @@
 // Reading a job file, section by section.
-ghost use Rattle.std.specs.Prelude.{◌≡◌, List, ℕ, ◌+◌, ◌*◌, ◌≤◌, ◌<◌, drop, replicate, IfOk};
+ghost use Rattle.std.specs.Prelude.{◌≡◌, List, ℕ, ◌+◌, ◌*◌, ◌≤◌, ◌<◌, drop, replicate, IfOk, OnOk};
 ghost use Rattle.reader.specs.Limits.{newest_version, max_nodes, min_tasks, max_tasks, max_links};
-ghost use Rattle.reader.specs.Entries.{no_node, no_link, blank_task};
+ghost use Rattle.reader.specs.Entries.{no_node, no_link, blank_task, empty_job};
 ghost use Rattle.reader.specs.Number.{number_at, version_fault, value_fault};
 ghost use Rattle.reader.specs.Fields.{node_fields, width_if, fault_if, value_if, fields_fault};
-ghost use Rattle.reader.specs.Refusals.{resulted};
+ghost use Rattle.reader.specs.Refusals.{resulted, answered};
 ghost use Rattle.reader.specs.Reads.{Reads};
 ghost use Rattle.reader.specs.Sound.{below as below_of};
 ghost use Rattle.reader.specs.JobFile.{node_width, task_width, node_section, task_section, node_at, nodes_fault, nodes_at, run_fault, run_at};
-ghost use Rattle.reader.specs.JobFile.{task_fault, task_at, tasks_fault, tasks_at, link_fault, link_at, links_fault, links_at, read_job};
+ghost use Rattle.reader.specs.JobFile.{task_fault, task_at, tasks_fault, tasks_at, link_fault, link_at, links_fault, links_at, job_fault, job_at, read_job};
 
 use crate::job::{Job, Link, Node, Task};
 use crate::number::{field, field_of_part};
@@ -224,11 +224,12 @@ fn read_version(file: &[u8]) -> Result<u32, Refusal>
     )
 }
 
-// A whole job file.
-pub fn read_job(file: &[u8]) -> Result<Job, Refusal>
-    ensures { result ≡ read_job file.now }
+// A whole job file, into an empty job. It is filled where it lies: a job that is part of a Result is cleared and copied at each `?`.
+pub fn fill_job(file: &[u8], job: &mut Job) -> Result<(), Refusal>
+    requires { job.old ≡ empty_job }
+    ensures answer { result ≡ answered (job_fault file.now) }
+    ensures job { OnOk result (job.new ≡ job_at file.now) }
 {
-    let mut job = Job::empty();
     let version = read_version(file)?;
     let (nodes, start) = read_nodes(file, version as usize, &mut job.nodes)?;
     let (tasks, behind) = read_tasks(
@@ -246,5 +247,14 @@ pub fn read_job(file: &[u8]) -> Result<Job, Refusal>
     job.node_count = nodes as u32;
     job.task_count = tasks as u32;
     job.link_count = links as u32;
+    Ok(())
+}
+
+// The same, as a value.
+pub fn read_job(file: &[u8]) -> Result<Job, Refusal>
+    ensures { result ≡ read_job file.now }
+{
+    let mut job = Job::empty();
+    fill_job(file, &mut job)?;
     Ok(job)
 }

@@ -1,85 +1,13 @@
--- A whole job file: each section behind the one before it, each refusal the first.
-use native.Mathlib.Omega.{arith}
-use mathlib.Core.Path.{ap}
-use Rattle.reader.specs.declared.job.Job.{Job}
-use Rattle.reader.specs.Entries.{empty_job}
+-- `reader::job_file::read_job` meets its contract.
 use Rattle.reader.specs.JobFile.{read_job}
-use Rattle.reader.proofs.NumberLaws.{is_fault}
-use Rattle.reader.proofs.Chain.{handed, refused, given, reads_some}
-use Rattle.reader.proofs.JobLaws.{version_read, nodes_read, tasks_read, links_read, rest_part}
-use Rattle.reader.proofs.JobLaws.{bad_version, bad_nodes, node_room, bad_tasks, task_least, bad_links, bad_tail, no_fault, job_is}
+use Rattle.reader.proofs.NumberLaws.{is_none, is_fault}
+use Rattle.reader.proofs.Chain.{handed, given}
 use Rattle.reader.proofs.job_file.read_job.Goals as goal
 
-pub returns-in_err-version : goal.returns-in_err-version
+pub returns-in_err-fill_job : goal.returns-in_err-fill_job
 unfolding read_job
-returns-in_err-version c = handed _ _ c.from_residual.ensures.1 (bad_version _ (is_fault _ _ _ c.read_version.ensures c.in_err-version.was))
-
-pub read_nodes-requires : goal.read_nodes-requires
-unfolding empty_job
-read_nodes-requires c = ap (λ (j : Job). j.nodes) c.empty-job.ensures
-
-pub returns-in_err-nodes : goal.returns-in_err-nodes
-unfolding read_job
-returns-in_err-nodes c =
-    let version = version_read c.read_version.ensures c.in_ok-version.was in
-    handed _ _ c.from_residual-in_err-nodes.ensures.1 (bad_nodes version (reads_some c.read_nodes.ensures.reads c.in_err-nodes.was))
-
-pub slice_bounds-read_tasks-count : goal.slice_bounds-read_tasks-count
-slice_bounds-read_tasks-count c =
-    let version = version_read c.read_version.ensures c.in_ok-version.was in
-    omega (arith, node_room (nodes_read version c.read_nodes.ensures.reads c.in_ok-nodes.was))
-
-pub slice_bounds-read_tasks-start : goal.slice_bounds-read_tasks-start
-slice_bounds-read_tasks-start c =
-    let version = version_read c.read_version.ensures c.in_ok-version.was in
-    omega (arith, node_room (nodes_read version c.read_nodes.ensures.reads c.in_ok-nodes.was))
-
-pub read_tasks-requires : goal.read_tasks-requires
-unfolding empty_job
-read_tasks-requires c =
-    let few = c.in_ok-nodes.ensures.count_le_max_nodes in
-    (few.1, few.0, ap (λ (j : Job). j.tasks) c.empty-job.ensures)
-
-pub returns-in_err-tasks : goal.returns-in_err-tasks
-unfolding read_job
-returns-in_err-tasks c =
-    let version = version_read c.read_version.ensures c.in_ok-version.was in
-    let nodes = nodes_read version c.read_nodes.ensures.reads c.in_ok-nodes.was in
-    let behind = c.read_tasks.ensures.by_index _ (rest_part c.args.file.now c.in_ok-nodes.start) in
-    handed _ _ c.from_residual-in_err-tasks.ensures.1 (bad_tasks nodes (reads_some behind c.in_err-tasks.was))
-
-pub read_links-requires : goal.read_links-requires
-unfolding empty_job
-read_links-requires c =
-    let version = version_read c.read_version.ensures c.in_ok-version.was in
-    let nodes = nodes_read version c.read_nodes.ensures.reads c.in_ok-nodes.was in
-    let behind = c.read_tasks.ensures.by_index _ (rest_part c.args.file.now c.in_ok-nodes.start) in
-    let few = c.in_ok-tasks.ensures.count_le_max_tasks in
-    (few.1, task_least (tasks_read nodes behind c.in_ok-tasks.was), few.0, ap (λ (j : Job). j.links) c.empty-job.ensures)
-
-pub returns-in_err-links : goal.returns-in_err-links
-unfolding read_job
-returns-in_err-links c =
-    let version = version_read c.read_version.ensures c.in_ok-version.was in
-    let nodes = nodes_read version c.read_nodes.ensures.reads c.in_ok-nodes.was in
-    let behind = c.read_tasks.ensures.by_index _ (rest_part c.args.file.now c.in_ok-nodes.start) in
-    let tasks = tasks_read nodes behind c.in_ok-tasks.was in
-    handed _ _ c.from_residual-in_err-links.ensures.1 (bad_links tasks (reads_some c.read_links.ensures.reads c.in_err-links.was))
-
-pub returns-then-end-file : goal.returns-then-end-file
-unfolding read_job
-returns-then-end-file c =
-    let version = version_read c.read_version.ensures c.in_ok-version.was in
-    let nodes = nodes_read version c.read_nodes.ensures.reads c.in_ok-nodes.was in
-    let behind = c.read_tasks.ensures.by_index _ (rest_part c.args.file.now c.in_ok-nodes.start) in
-    let links = links_read (tasks_read nodes behind c.in_ok-tasks.was) c.read_links.ensures.reads c.in_ok-links.was in
-    refused _ (bad_tail links c.if-end-file.true)
+returns-in_err-fill_job c = handed _ _ c.from_residual.ensures.1 (is_fault _ _ _ c.fill_job.ensures.answer c.in_err-fill_job.was)
 
 pub returns : goal.returns
 unfolding read_job
-returns c =
-    let version = version_read c.read_version.ensures c.in_ok-version.was in
-    let nodes = nodes_read version c.read_nodes.ensures.reads c.in_ok-nodes.was in
-    let behind = c.read_tasks.ensures.by_index _ (rest_part c.args.file.now c.in_ok-nodes.start) in
-    let links = links_read (tasks_read nodes behind c.in_ok-tasks.was) c.read_links.ensures.reads c.in_ok-links.was in
-    given _ (no_fault links c.if-end-file.false) (job_is links)
+returns c = given _ (is_none _ _ _ c.fill_job.ensures.answer c.in_ok-fill_job.was) c.in_ok-fill_job.ensures.job
