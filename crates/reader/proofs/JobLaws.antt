@@ -7,7 +7,7 @@ use lib.ListN.{length, take, drop, length-drop}
 use lib.Seq.{take_all}
 use native.Mathlib.Omega.{arith}
 use borrow.Author.Tests.{lt-leb}
-use Rattle.std.specs.Prelude.{Result, Ok}
+use Rattle.std.specs.Prelude.{Result, Ok, Err}
 use Rattle.reader.specs.declared.job.Job.{Job}
 use Rattle.reader.specs.declared.job.Node.{Node}
 use Rattle.reader.specs.declared.job.Task.{Task}
@@ -18,11 +18,11 @@ use Rattle.reader.specs.First.{unless}
 use Rattle.reader.specs.Limits.{newest_version, min_tasks}
 use Rattle.reader.specs.Number.{number_at, version_fault}
 use Rattle.reader.specs.JobFile.{job_version, task_width, node_section, task_section, link_section, job_length, node_count, task_count, link_count, nodes_fault}
-use Rattle.reader.specs.JobFile.{nodes_at, tasks_fault, tasks_at, links_fault, links_at, tail_fault, job_fault, job_at}
-use Rattle.reader.specs.Refusals.{resulted}
+use Rattle.reader.specs.JobFile.{nodes_at, tasks_fault, tasks_at, links_fault, links_at, tail_fault, job_fault, job_at, read_job}
+use Rattle.reader.specs.Refusals.{Answer, resulted, answered}
 use Rattle.reader.specs.Reads.{Reads}
-use Rattle.reader.proofs.NumberLaws.{is_none, is_value}
-use Rattle.reader.proofs.Chain.{pass, stop, reads_none, reads_value}
+use Rattle.reader.proofs.NumberLaws.{is_none, is_value, is_fault}
+use Rattle.reader.proofs.Chain.{pass, stop, refused, given, reads_none, reads_value}
 use Rattle.reader.proofs.Accepted.{nodes_good, tasks_good}
 use Rattle.reader.proofs.Faultless.{good_tail}
 
@@ -186,3 +186,13 @@ module _ {s : List ℕ} {x : ℕ} {ns : Section Node} {ts : Section Task} {ls : 
       let eb = behind_is d.tasks in
       let em = m_is in
       cc
+
+-- reading into a lent job, as reading gives a job
+module _ (s : List ℕ) {r : Answer} (answer : r ≡ answered (job_fault s)) where
+  pub filled : {job : Job} → r ≡ Ok tt → job ≡ job_at s → read_job s ≡ Ok job
+  unfolding read_job
+  filled q e = sym (given _ (is_none _ _ _ answer q) e)
+
+  pub unfilled : {e : Refusal} → r ≡ Err e → read_job s ≡ Err e
+  unfolding read_job
+  unfilled q = sym (refused _ (is_fault _ _ _ answer q))

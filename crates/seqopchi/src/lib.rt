@@ -18,8 +18,7 @@ use judge::judge_plan;
 use judge::sets::plan_sets;
 use planner::plan_job;
 use reader::job::{Job, Node};
-use reader::job_file::read_job;
-use reader::plan::Plan;
+use reader::job_file::fill_job;
 use reader::plan_file::read_plan;
 use reader::refusal::{Refusal, result_number};
 use replay::replay_into;
@@ -27,30 +26,23 @@ use replay::times_file::read_list;
 use rules::Loss;
 use writer::{put_number, put_plan, room};
 
-// A job file, and then a plan file, for the crates above. The calls here read both themselves: a job handed on in a pair is copied twice more, 10 KB.
-pub fn read_files(job: &[u8], plan: &[u8]) -> Result<(Job, Plan), Refusal>
-    ensures { result ≡ resulted (files_fault job.now plan.now) (job_at job.now, plan_in job.now plan.now) }
-{
-    let job = read_job(job)?;
-    let places = read_plan(plan, &job)?;
-    Ok((job, places))
-}
-
 fn judge_files(job: &[u8], plan: &[u8]) -> Result<(), Refusal>
     ensures { result ≡ answered (judge_files job.now plan.now) }
 {
-    let job = read_job(job)?;
-    let plan = read_plan(plan, &job)?;
-    judge_plan(&job, &plan)
+    let mut value = Job::empty();
+    fill_job(job, &mut value)?;
+    let places = read_plan(plan, &value)?;
+    judge_plan(&value, &places)
 }
 
 fn plan_file(job: &[u8], out: &mut [u8]) -> Result<(), Refusal>
     ensures { plan_file job.now out.old ≡ record { answer = result; buffer = out.new } }
 {
-    let job = read_job(job)?;
-    let need = 8 + 16 * (job.task_count as usize);
+    let mut value = Job::empty();
+    fill_job(job, &mut value)?;
+    let need = 8 + 16 * (value.task_count as usize);
     room(out, need)?;
-    let plan = plan_job(job)?;
+    let plan = plan_job(value)?;
     put_plan(out, &plan);
     Ok(())
 }
@@ -87,12 +79,13 @@ fn replay_files(
     ensures { replay_files job.now plan.now loss (list_of list.entry) out.old
         ≡ record { answer = result; buffer = out.new } }
 {
-    let job = read_job(job)?;
-    let plan = read_plan(plan, &job)?;
-    lost_group(loss, &job)?;
-    let times = read_list(&job, &plan, list)?;
-    room(out, 12 * (job.task_count as usize))?;
-    replay_into(&job, &plan, times.as_ref(), loss, out);
+    let mut value = Job::empty();
+    fill_job(job, &mut value)?;
+    let places = read_plan(plan, &value)?;
+    lost_group(loss, &value)?;
+    let times = read_list(&value, &places, list)?;
+    room(out, 12 * (value.task_count as usize))?;
+    replay_into(&value, &places, times.as_ref(), loss, out);
     Ok(())
 }
 
@@ -109,11 +102,12 @@ fn put_sets(out: &mut [u8], sets: &[u32; Copies::COUNT], n: usize)
 fn sets_files(job: &[u8], plan: &[u8], out: &mut [u8]) -> Result<(), Refusal>
     ensures { sets_files job.now plan.now out.old ≡ record { answer = result; buffer = out.new } }
 {
-    let job = read_job(job)?;
-    let plan = read_plan(plan, &job)?;
-    let n = job.task_count as usize;
+    let mut value = Job::empty();
+    fill_job(job, &mut value)?;
+    let places = read_plan(plan, &value)?;
+    let n = value.task_count as usize;
     room(out, 4 * n)?;
-    put_sets(out, &plan_sets(&job, &plan), n);
+    put_sets(out, &plan_sets(&value, &places), n);
     Ok(())
 }
 

@@ -32,17 +32,19 @@ unfolding Answers
 tried_stops file plan n bad e = rw bad e
 
 -- both read well, and the plan is tried
-module _ (file plan : List ℕ) (job : Job) (places : Plan) (d : FilesDone file plan job places) (v : Bool) (is : (v ≡ true) ↔ Trial job places) where
-  of_files : (v ≡ true) ↔ Trial (job_at file) (plan_in file plan)
-  of_files = subst (λ p. (v ≡ true) ↔ Trial (job_at file) p) d.plan_is (subst (λ j. (v ≡ true) ↔ Trial j places) d.job_is is)
+pub tried_good : (file plan : List ℕ) (job : Job) (places : Plan) → FilesDone file plan job places → {v : Bool} → (v ≡ true) ↔ Trial job places
+    → (v ≡ true) ↔ Trial (job_at file) (plan_in file plan)
+tried_good file plan job places d {v} is =
+    subst (λ p. (v ≡ true) ↔ Trial (job_at file) p) d.plan_is (subst (λ j. (v ≡ true) ↔ Trial j places) d.job_is is)
 
+module _ (file plan : List ℕ) (fine : files_fault file plan ≡ none) {v : Bool} (good : (v ≡ true) ↔ Trial (job_at file) (plan_in file plan)) where
   pub tried_yes : v ≡ true → TrialAnswers file plan 0
   unfolding Answers
-  tried_yes e = rw d.fault (inl (refl, of_files.0 e))
+  tried_yes e = rw fine (inl (refl, good.0 e))
 
   pub tried_no : v ≡ false → TrialAnswers file plan 256
   unfolding Answers packed
-  tried_no e = rw d.fault (inr (refl, λ t. clash _ (of_files.1 t) e))
+  tried_no e = rw fine (inr (refl, λ t. clash _ (good.1 t) e))
 
 -- what both calls answer to one pair of files
 module _ (file plan : List ℕ) (n : ℕ) (answers : TrialAnswers file plan n) where

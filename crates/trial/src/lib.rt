@@ -7,8 +7,11 @@ pub mod runs;
 pub mod words;
 
 ghost use Rattle.std.specs.Prelude.{true, ◌↔◌, ◌≡◌};
+ghost use Rattle.reader.specs.JobFile.{job_at};
+ghost use Rattle.reader.specs.Reads.{Reads};
 ghost use Rattle.reader.specs.Sound.{Sound, PlanSound};
 ghost use Rattle.rules.specs.Trial.{Trial};
+ghost use Rattle.seqopchi.specs.Files.{plan_in, files_fault};
 ghost use Rattle.trial.specs.Calls.{TrialAnswers};
 
 use crate::passes::pass;
@@ -16,9 +19,10 @@ use crate::words::RUNS;
 use copies::table::Copies;
 use judge::tasks::place_copies;
 use reader::job::Job;
+use reader::job_file::fill_job;
 use reader::plan::Plan;
-use reader::refusal::result_number;
-use seqopchi::read_files;
+use reader::plan_file::read_plan;
+use reader::refusal::{Refusal, result_number};
 
 // Number 0 and first place 1.
 const NO: u64 = 256;
@@ -37,12 +41,22 @@ pub fn trial_plan(job: &Job, plan: &Plan) -> bool
         && (n <= RUNS || pass(job, &copies, &leave, RUNS, false))
 }
 
+// The same of two files.
+fn trial_files(job: &[u8], plan: &[u8]) -> Result<bool, Refusal>
+    ensures { Reads (files_fault job.now plan.now) result (λ good. (good ≡ true) ↔ Trial (job_at job.now) (plan_in job.now plan.now)) }
+{
+    let mut value = Job::empty();
+    fill_job(job, &mut value)?;
+    let places = read_plan(plan, &value)?;
+    Ok(trial_plan(&value, &places))
+}
+
 // Tries two files: 0 is yes.
 pub fn seqopchi_trial(job: &[u8], plan: &[u8]) -> u64
     ensures { TrialAnswers job.now plan.now result }
 {
-    match read_files(job, plan) {
-        Ok((job, plan)) => if trial_plan(&job, &plan) { 0 } else { NO },
+    match trial_files(job, plan) {
+        Ok(good) => if good { 0 } else { NO },
         Err(refusal) => result_number(Err(refusal)),
     }
 }
