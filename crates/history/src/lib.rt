@@ -12,7 +12,8 @@ ghost use Rattle.reader.specs.Refusals.{result_number};
 ghost use Rattle.history.specs.Calls.{run_times, renew_job};
 
 use crate::renewed::{put_table, renew};
-use reader::job_file::read_job;
+use reader::job::Job;
+use reader::job_file::fill_job;
 use reader::refusal::{Refusal, result_number};
 use writer::{room, write_job};
 
@@ -20,7 +21,8 @@ use writer::{room, write_job};
 pub fn run_times(file: &[u8], log: &[u8], out: &mut [u8]) -> Result<(), Refusal>
     ensures { run_times file.now log.now out.old ≡ record { answer = result; buffer = out.new } }
 {
-    let job = read_job(file)?;
+    let mut job = Job::empty();
+    fill_job(file, &mut job)?;
     let need = 4 * ((job.node_count as usize) * (job.task_count as usize));
     room(out, need)?;
     let new = renew(&job, log)?;
@@ -32,7 +34,8 @@ pub fn run_times(file: &[u8], log: &[u8], out: &mut [u8]) -> Result<(), Refusal>
 pub fn renew_job(file: &[u8], log: &[u8], out: &mut [u8]) -> Result<(), Refusal>
     ensures { renew_job file.now log.now out.old ≡ record { answer = result; buffer = out.new } }
 {
-    let job = read_job(file)?;
+    let mut job = Job::empty();
+    fill_job(file, &mut job)?;
     room(out, file.len())?;
     let new = renew(&job, log)?;
     write_job(&new, out)

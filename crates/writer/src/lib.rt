@@ -13,7 +13,7 @@ ghost use Rattle.reader.specs.Refusals.{answered};
 ghost use Rattle.writer.specs.Puts.{Puts, Rows};
 
 use reader::job::{Job, Link, Node, Task};
-use reader::job_file::read_job;
+use reader::job_file::fill_job;
 use reader::plan::{Place, Plan};
 use reader::plan_file::read_plan;
 use reader::refusal::Refusal;
@@ -232,7 +232,7 @@ pub fn write_job(job: &Job, out: &mut [u8]) -> Result<(), Refusal>
     let mut scratch = [0u8; Job::MAX_LENGTH];
     let len = put_job(&mut scratch, job);
     let file = &scratch[..len];
-    read_job(file)?;
+    fill_job(file, &mut Job::empty())?;
     send(file, out)
 }
 
@@ -242,7 +242,8 @@ pub fn write_plan(job: &Job, plan: &Plan, out: &mut [u8]) -> Result<(), Refusal>
 {
     let mut scratch = [0u8; Job::MAX_LENGTH];
     let len = put_job(&mut scratch, job);
-    let back = read_job(&scratch[..len])?;
+    let mut back = Job::empty();
+    fill_job(&scratch[..len], &mut back)?;
     let plan_len = put_plan(&mut scratch, plan);
     let file = &scratch[..plan_len];
     read_plan(file, &back)?;
