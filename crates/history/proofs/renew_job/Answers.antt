@@ -5,7 +5,8 @@ use Rattle.history.proofs.CallLaws.{job_refused, job_sound, no_room, log_refused
 use Rattle.history.proofs.renew_job.Goals as goal
 
 pub returns-in_err-fill_job : goal.returns-in_err-fill_job
-returns-in_err-fill_job c = renew_is _ _ _ ∙ job_refused _ _ _ _ _ _ refl _ (unfilled c.args.file.now c.fill_job.ensures.answer c.in_err-fill_job.was) c.from_residual.ensures.1
+returns-in_err-fill_job c =
+    renew_is _ _ _ ∙ job_refused _ _ _ _ _ _ refl _ (unfilled c.args.file.now c.fill_job.ensures.answer c.in_err-fill_job.was) c.from_residual.ensures.1
 
 pub returns-in_err-room : goal.returns-in_err-room
 returns-in_err-room c =

@@ -7,7 +7,8 @@ use Rattle.history.proofs.CallLaws.{job_refused, job_sound, no_room, log_refused
 use Rattle.history.proofs.run_times.Goals as goal
 
 pub returns-in_err-fill_job : goal.returns-in_err-fill_job
-returns-in_err-fill_job c = table_is _ _ _ ∙ job_refused _ _ _ _ _ _ refl _ (unfilled c.args.file.now c.fill_job.ensures.answer c.in_err-fill_job.was) c.from_residual.ensures.1
+returns-in_err-fill_job c =
+    table_is _ _ _ ∙ job_refused _ _ _ _ _ _ refl _ (unfilled c.args.file.now c.fill_job.ensures.answer c.in_err-fill_job.was) c.from_residual.ensures.1
 
 pub overflow_mul-need-2 : goal.overflow_mul-need-2
 overflow_mul-need-2 c =

@@ -8,7 +8,8 @@ use Rattle.seqopchi.proofs.judge_files.Goals as goal
 
 pub returns-in_err-fill_job : goal.returns-in_err-fill_job
 unfolding judge_files
-returns-in_err-fill_job c = handed _ _ c.from_residual.ensures.1 (stop _ (job_stops c.args.job.now refl _ (unfilled c.args.job.now c.fill_job.ensures.answer c.in_err-fill_job.was)))
+returns-in_err-fill_job c =
+    handed _ _ c.from_residual.ensures.1 (stop _ (job_stops c.args.job.now refl _ (unfilled c.args.job.now c.fill_job.ensures.answer c.in_err-fill_job.was)))
 
 pub read_plan-requires : goal.read_plan-requires
 read_plan-requires c =

@@ -9,7 +9,8 @@ use Rattle.seqopchi.proofs.plan_file.Goals as goal
 
 pub returns-in_err-fill_job : goal.returns-in_err-fill_job
 unfolding plan_file
-returns-in_err-fill_job c = hands _ _ _ c.from_residual.ensures.1 (job_refused c.args.job.now _ refl (unfilled c.args.job.now c.fill_job.ensures.answer c.in_err-fill_job.was))
+returns-in_err-fill_job c =
+    hands _ _ _ c.from_residual.ensures.1 (job_refused c.args.job.now _ refl (unfilled c.args.job.now c.fill_job.ensures.answer c.in_err-fill_job.was))
 
 pub returns-in_err-room : goal.returns-in_err-room
 unfolding plan_file

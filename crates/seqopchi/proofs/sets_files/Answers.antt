@@ -10,7 +10,8 @@ use Rattle.seqopchi.proofs.sets_files.Goals as goal
 pub returns-in_err-fill_job : goal.returns-in_err-fill_job
 unfolding sets_files
 returns-in_err-fill_job c =
-    hands _ _ _ c.from_residual.ensures.1 (sets_stops _ _ _ (job_stops c.args.job.now refl _ (unfilled c.args.job.now c.fill_job.ensures.answer c.in_err-fill_job.was)))
+    hands _ _ _ c.from_residual.ensures.1 (sets_stops _ _ _ (job_stops c.args.job.now refl _
+    (unfilled c.args.job.now c.fill_job.ensures.answer c.in_err-fill_job.was)))
 
 pub read_plan-requires : goal.read_plan-requires
 read_plan-requires c =
@@ -28,7 +29,8 @@ unfolding sets_files
 returns-in_err-room c =
     let read = filled c.args.job.now c.fill_job.ensures.answer c.in_ok-fill_job.was c.in_ok-fill_job.ensures.job in
     hands _ _ _ c.from_residual-in_err-room.ensures.1
-    (sets_no_room _ _ _ _ (both_done c.args.job.now refl read _ c.read_plan.ensures c.in_ok-places.was) _ (is_fault _ _ _ c.room.ensures.answer c.in_err-room.was))
+    (sets_no_room _ _ _ _ (both_done c.args.job.now refl read _ c.read_plan.ensures c.in_ok-places.was) _
+    (is_fault _ _ _ c.room.ensures.answer c.in_err-room.was))
 
 pub plan_sets-requires : goal.plan_sets-requires
 plan_sets-requires c =
