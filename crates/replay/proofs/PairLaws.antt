@@ -85,18 +85,18 @@ module _ (job : Job) (plan : Plan) (times : Times) (all : Sound job × PlanSound
     unfolding rule_b copy
     detected_is = rw (row_primary job plan (tasks job) j below, row_backup job plan (tasks job) j below)
 
-    primary_ends : (ended_rows job plan times j).primary.finish ≤ max_start + max_time
-    primary_ends = rw primary_is (omega (arith, fits))
+    pub primary_ends_lem : (0 < (ended_rows job plan times j).primary.finish) × ((ended_rows job plan times j).primary.finish ≤ max_start + max_time)
+    primary_ends_lem = rw primary_is (omega (arith, (all.2.within j below).primary_least), omega (arith, fits))
 
-    backup_ends : (ended_rows job plan times j).backup.finish ≤ max_start + max_time
-    backup_ends = rw backup_is (omega (arith, fits))
+    pub backup_ends_lem : (0 < (ended_rows job plan times j).backup.finish) × ((ended_rows job plan times j).backup.finish ≤ max_start + max_time)
+    backup_ends_lem = rw backup_is (omega (arith, (all.2.within j below).backup_least), omega (arith, fits))
 
     pub finish_most : (x : TaskRun) → finish_of (ended_rows job plan times j) x ≤ max_start + max_time
     unfolding finish_of
     finish_most x =
         split (is_finished x.primary)
-        (λ e. rw e primary_ends)
-        (λ e. split (is_finished x.backup) (λ f. rw (e, f) backup_ends) (λ f. rw (e, f) (omega arith)))
+        (λ e. rw e primary_ends_lem.1)
+        (λ e. split (is_finished x.backup) (λ f. rw (e, f) backup_ends_lem.1) (λ f. rw (e, f) (omega arith)))
 
 -- task j where times are given or not
 module _ (job : Job) (plan : Plan) (given : Option Times)

@@ -25,6 +25,7 @@ use Rattle.reader.specs.JobFile.{job_fault, job_at, read_job}
 use Rattle.reader.specs.PlanFile.{plan_fault, read_plan}
 use Rattle.reader.proofs.FirstLaws.{or_else_l, or_else_r, unless_none, any_i, any_e, any_same}
 use Rattle.reader.proofs.TestLaws.{split}
+use Rattle.reader.proofs.RefusalLaws.{answered_refused}
 use Rattle.reader.proofs.NumberLaws.{is_none, is_value, is_fault}
 use Rattle.reader.proofs.Chain.{pass, stop, handed, given as both_given}
 use Rattle.reader.proofs.Promise.{job_sound as sound_job, plan_sound}
@@ -177,6 +178,11 @@ module _ (file plan : List ℕ) (job : Job) (places : Plan) (d : FilesDone file 
 
     pub bad_group : {r : Refusal} → loss_fault job loss ≡ some r → replay_fault file plan loss list out ≡ some r
     bad_group q = to_loss ∙ stop _ q
+
+    pub no_node_lem : {a : Answer} {r : Refusal} → a ≡ answered (loss_fault job loss) → a ≡ Err r
+        → replay_files file plan loss list out ≡ record { answer = a; buffer = out }
+    unfolding replay_files
+    no_node_lem {a} {r} ea q = refuses _ out (bad_group ((answered_refused _ r).0 (sym ea ∙ q))) q
 
     module _ (there : loss_fault job loss ≡ none) where
       to_list : replay_fault file plan loss list out ≡ (list_fault list job places or_else room_fault out (12 * tasks job))

@@ -1,15 +1,17 @@
 -- Laws of writing a file: what was put is read back, refused, or sent.
-use Prim.Native.Nat.{ℕ}
+use Prim.Native.Nat.{ℕ, ◌<◌}
 use mathlib.Core.Path.{◌≡◌, sym, ap, ◌∙◌}
 use mathlib.Core.List.{List}
 use mathlib.Core.Option.{Option, none, some}
 use lib.ListN.{length, take}
 use native.Mathlib.Omega.{arith}
+use borrow.Author.Tests.{lt-leb}
 use Rattle.reader.specs.declared.job.Job.{Job}
 use Rattle.reader.specs.declared.plan.Plan.{Plan}
 use Rattle.reader.specs.declared.refusal.Refusal.{Refusal}
+use Rattle.reader.specs.declared.refusal.Refusal.TheVariants.{ShortBuffer}
 use Rattle.std.specs.Prelude.{Result, Ok, Err, IsErrAnd}
-use Rattle.reader.specs.First.{◌or_else◌}
+use Rattle.reader.specs.First.{◌or_else◌, unless}
 use Rattle.reader.specs.Refusals.{Answer, resulted}
 use Rattle.reader.specs.Sound.{Sound}
 use Rattle.reader.specs.JobFile.{job_fault, job_at, read_job}
@@ -37,6 +39,12 @@ module _ (f g : Option Refusal) (s out : List ℕ) where
   writes_next : f ≡ none → writes (f or_else g) s out ≡ writes g s out
   unfolding ◌or_else◌
   writes_next h = rw h
+
+-- a buffer that is too short
+pub send_short : (s out : List ℕ) → length out < length s
+    → writes (room_fault out (length s)) s out ≡ record { answer = Err (ShortBuffer (length s)); buffer = out }
+unfolding room_fault unless
+send_short s out h = rw lt-leb
 
 -- what a `?` hands on
 pub hands_on : {x : Written} {out : List ℕ} {q : Refusal} (w : Answer) → IsErrAnd w (λ r. r ≡ q) → x ≡ record { answer = Err q; buffer = out }
