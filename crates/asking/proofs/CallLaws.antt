@@ -24,7 +24,7 @@ use Rattle.rules.proofs.LongerLaws.{longer_extends, longer_sound, longer_planned
 use Rattle.planner.specs.declared.board.Pair.{Pair}
 use Rattle.planner.specs.Tasks.{pair_row, attempted, place_with}
 use Rattle.asking.specs.Beside.{place_new}
-use Rattle.asking.specs.Calls.{Asking, Committing, asked, committed}
+use Rattle.asking.specs.Calls.{Asking, Committing, asked, committed, with_job}
 
 module _ (job : Job) (plan : Plan) (d : Description) (ok : Asking job plan d) where
   pub big_sound : (big : Job) → big ≡ longer_job job d → Sound big
@@ -60,13 +60,13 @@ module _ (job : Job) (plan : Plan) (d : Description) (x : Place) (ok : Committin
     told : a ≡ judge (longer_job job d) (longer_plan job plan x)
     told = ea ∙ ap₂ (λ b l. judge b l) is il
 
-    pub commit_done : a ≡ Ok tt → Ok (big, long) ≡ committed (commit job plan d x)
+    pub commit_done : a ≡ Ok tt → with_job (Ok long) big ≡ committed (commit job plan d x)
     unfolding judge commit unless_stale longer committed
     commit_done q =
         let fine : breach (longer_job job d) (rows (longer_job job d) (longer_plan job plan x)) ≡ none = (answered_done _).0 (sym told ∙ q) in
         rw (fine, is, il)
 
-    pub commit_refused : {y : Refusal} → a ≡ Err y → Err (Stale (tasks job)) ≡ committed (commit job plan d x)
+    pub commit_refused : {y : Refusal} → a ≡ Err y → with_job (Err (Stale (tasks job))) big ≡ committed (commit job plan d x)
     unfolding judge commit unless_stale committed
     commit_refused {y} q =
         let bad : breach (longer_job job d) (rows (longer_job job d) (longer_plan job plan x)) ≡ some y = (answered_refused _ y).0 (sym told ∙ q) in

@@ -30,3 +30,8 @@ asked (refused r) = Err r
 unfoldable pub committed : Attempt Booked → Result (Job × Plan) Refusal
 committed (placed b) = Ok (b.job, b.plan)
 committed (refused r) = Err r
+
+-- a plan in a Result and the job that was filled beside it, as a pair
+abbrev pub with_job : Result Plan Refusal → Job → Result (Job × Plan) Refusal
+with_job (Ok plan) job = Ok (job, plan)
+with_job (Err r) job = Err r

@@ -8,7 +8,7 @@ ghost use Rattle.reader.specs.Refusals.{answered};
 ghost use Rattle.rules.specs.declared.Description.{Description};
 ghost use Rattle.rules.specs.Description.{new_links, full_fault};
 ghost use Rattle.rules.specs.Asking.{ask as ask_of, commit as commit_of};
-ghost use Rattle.asking.specs.Calls.{Asking, Committing, asked, committed};
+ghost use Rattle.asking.specs.Calls.{Asking, Committing, asked, committed, with_job};
 
 use crate::beside::place_new;
 use crate::longer::{longer_job, longer_plan};
@@ -44,14 +44,21 @@ pub fn ask(job: &Job, plan: &Plan, d: &Description) -> Result<Place, Refusal>
     Ok(place_of(pair.primary, pair.backup))
 }
 
-// The new task at a proposed place, if it still keeps all rules there: the longer job, and the longer plan.
-pub fn commit(job: &Job, plan: &Plan, d: &Description, place: Place) -> Result<(Job, Plan), Refusal>
+// The new task at a proposed place, if it still keeps all rules there: the longer plan, and into `longer` the longer job.
+pub fn commit(
+    job: &Job,
+    plan: &Plan,
+    d: &Description,
+    place: Place,
+    longer: &mut Job,
+) -> Result<Plan, Refusal>
     requires { Committing job.now plan.now d.now place }
-    ensures { result ≡ committed (commit_of job.now plan.now d.now place) }
+    ensures { with_job result longer.new ≡ committed (commit_of job.now plan.now d.now place) }
 {
-    let longer = (longer_job(job, d), longer_plan(job, plan, place));
-    match judge_plan(&longer.0, &longer.1) {
-        Ok(()) => Ok(longer),
+    *longer = longer_job(job, d);
+    let places = longer_plan(job, plan, place);
+    match judge_plan(longer, &places) {
+        Ok(()) => Ok(places),
         Err(_) => Err(Refusal::Stale(job.task_count as usize)),
     }
 }

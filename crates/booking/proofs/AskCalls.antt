@@ -25,7 +25,7 @@ use Rattle.rules.specs.declared.Description.{Description}
 use Rattle.rules.specs.Description.{NewSound, full_fault}
 use Rattle.rules.specs.Attempts.{Attempt, refused, placed}
 use Rattle.rules.specs.Asking.{ask, commit}
-use Rattle.asking.specs.Calls.{Asking, Committing, asked, committed}
+use Rattle.asking.specs.Calls.{Asking, Committing, asked, committed, with_job}
 use Rattle.asking.specs.Sizes.{Sizes}
 use Rattle.asking.specs.DescriptionFile.{description_at, question_fault, booking_fault, booked_place}
 use Rattle.asking.proofs.DescriptionLaws.{question_sound, booking_sound}
@@ -38,6 +38,14 @@ use Rattle.booking.proofs.AskedFiles.{go_on, files_passed}
 pub err_is : {A : Type 0} {r : Refusal} (w : Result A Refusal) → IsErrAnd w (λ e. e ≡ r) → w ≡ Err r
 err_is (Ok x) h = absurd h
 err_is (Err s) h = ap Err h
+
+-- a plan and the job beside it, as a pair
+module _ {w : Result Plan Refusal} (job : Job) where
+  pub paired : {plan : Plan} → w ≡ Ok plan → ◌≡◌ {A = Result (Job × Plan) Refusal} (with_job w job) (Ok (job, plan))
+  paired q = ap (λ x. with_job x job) q
+
+  pub refused_pair : {r : Refusal} → w ≡ Err r → ◌≡◌ {A = Result (Job × Plan) Refusal} (with_job w job) (Err r)
+  refused_pair q = ap (λ x. with_job x job) q
 
 -- the last step of either call: no fault before it, where `bad` are those of the third file, and this is what was read
 pub record Ready (bad : List ℕ → Job → Option Refusal) (file plan task : List ℕ) (job : Job) (places : Plan) (d : Description) : Type 0 where
@@ -154,9 +162,9 @@ module _ (file plan booking : List ℕ) where
   commit_is = refl
 
   pub commit_stops : {r : Refusal} → steps_fault booking_fault file plan booking ≡ some r
-      → (w : Result (Job × Plan) Refusal) → IsErrAnd w (λ e. e ≡ r) → w ≡ committed (commit_files file plan booking)
+      → (w : Result Plan Refusal) → IsErrAnd w (λ e. e ≡ r) → (job : Job) → with_job w job ≡ committed (commit_files file plan booking)
   unfolding committed
-  commit_stops e w h = err_is w h ∙ sym (ap committed (commit_is ∙ stops _ e))
+  commit_stops e w h job = refused_pair job (err_is w h) ∙ sym (ap committed (commit_is ∙ stops _ e))
 
   -- and the four numbers are read before it too
   pub commit_before_full : {r : Refusal} → judge_files file plan ≡ none → booking_fault booking (job_at file) ≡ some r

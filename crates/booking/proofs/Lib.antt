@@ -5,6 +5,7 @@ pub mod WrittenFiles
 pub mod HeldFiles
 pub mod AskUnpacked
 pub mod AskCalls
+pub mod HeldCalls
 pub mod CommitCalls
 pub mod AskFileSamples
 pub mod KeptBytes

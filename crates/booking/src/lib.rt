@@ -2,56 +2,90 @@
 #![tactic(auto)]
 
 ghost use Rattle.std.specs.Prelude.{◌≡◌};
+ghost use Rattle.reader.specs.Entries.{empty_job};
 ghost use Rattle.reader.specs.JobFile.{job_at};
 ghost use Rattle.reader.specs.Refusals.{resulted, answered, result_number};
-ghost use Rattle.asking.specs.Calls.{asked, committed};
+ghost use Rattle.reader.specs.Sound.{Sound, PlanSound};
+ghost use Rattle.rules.specs.Attempts.{placed};
+ghost use Rattle.asking.specs.Calls.{asked, committed, with_job};
 ghost use Rattle.seqopchi.specs.Files.{plan_in, judge_files, refusal_of};
-ghost use Rattle.booking.specs.Asks.{ask_files, commit_files, places_after, commit_into};
+ghost use Rattle.booking.specs.Asks.{ask_files, commit_files, places_after, books, commit_into};
 
 use asking::description_file::{read_booking, read_question};
 use asking::{ask, commit, full};
 use judge::judge_plan;
 use reader::job::Job;
+use reader::job_file::fill_job;
 use reader::plan::{Place, Plan};
+use reader::plan_file::read_plan;
 use reader::refusal::{Refusal, result_number};
-use seqopchi::read_files;
 use writer::{put_job, put_plan, room};
 
-// Both files, read and judged: a job, and a plan of it that passes.
-fn passed_files(job: &[u8], plan: &[u8]) -> Result<(Job, Plan), Refusal>
-    ensures { result ≡ resulted (judge_files job.now plan.now) (job_at job.now, plan_in job.now plan.now) }
+// Both files, read and judged: a plan that passes, and into an empty job the job of it, which as a part of the Result would be copied at each `?`.
+fn passed_files(job: &[u8], plan: &[u8], held: &mut Job) -> Result<Plan, Refusal>
+    requires { held.old ≡ empty_job }
+    ensures { with_job result held.new ≡ resulted (judge_files job.now plan.now) (job_at job.now, plan_in job.now plan.now) }
 {
-    let files = read_files(job, plan)?;
-    judge_plan(&files.0, &files.1)?;
-    Ok(files)
+    fill_job(job, held)?;
+    let places = read_plan(plan, held)?;
+    judge_plan(held, &places)?;
+    Ok(places)
 }
 
 // Where the task that a file describes would go.
 pub fn ask_files(job: &[u8], plan: &[u8], task: &[u8]) -> Result<Place, Refusal>
     ensures { result ≡ asked (ask_files job.now plan.now task.now) }
 {
-    let files = passed_files(job, plan)?;
-    let (job, plan) = (&files.0, &files.1);
-    let version = job.version as usize;
-    let nodes = job.node_count as usize;
-    let tasks = job.task_count as usize;
+    let mut held = Job::empty();
+    let plan = passed_files(job, plan, &mut held)?;
+    let version = held.version as usize;
+    let nodes = held.node_count as usize;
+    let tasks = held.task_count as usize;
     let description = read_question(task, version, nodes, tasks)?;
-    full(job.task_count, job.link_count, description.link_count)?;
-    ask(job, plan, &description)
+    full(held.task_count, held.link_count, description.link_count)?;
+    ask(&held, &plan, &description)
 }
 
-// The longer job and the longer plan, with the task at the place of a booking.
-pub fn commit_files(job: &[u8], plan: &[u8], booking: &[u8]) -> Result<(Job, Plan), Refusal>
-    ensures { result ≡ committed (commit_files job.now plan.now booking.now) }
+// The longer plan, with the task at the place of a booking, and into `longer` the longer job.
+#[inline(never)]
+pub fn commit_files(
+    job: &[u8],
+    plan: &[u8],
+    booking: &[u8],
+    longer: &mut Job,
+) -> Result<Plan, Refusal>
+    ensures { with_job result longer.new ≡ committed (commit_files job.now plan.now booking.now) }
 {
-    let files = passed_files(job, plan)?;
-    let (job, plan) = (&files.0, &files.1);
-    let version = job.version as usize;
-    let nodes = job.node_count as usize;
-    let tasks = job.task_count as usize;
+    let mut held = Job::empty();
+    let plan = passed_files(job, plan, &mut held)?;
+    let version = held.version as usize;
+    let nodes = held.node_count as usize;
+    let tasks = held.task_count as usize;
     let (description, place) = read_booking(booking, version, nodes, tasks)?;
-    full(job.task_count, job.link_count, description.link_count)?;
-    commit(job, plan, &description, place)
+    full(held.task_count, held.link_count, description.link_count)?;
+    commit(&held, &plan, &description, place, longer)
+}
+
+// A job and a plan of it as files, if both have room. By itself, so that its scratch isn't on the stack while a commit is judged.
+#[inline(never)]
+fn write_both(
+    job: &Job,
+    plan: &Plan,
+    out_job: &mut [u8],
+    out_plan: &mut [u8],
+) -> Result<(), Refusal>
+    requires { Sound job.now × PlanSound job.now plan.now }
+    ensures { books (placed (record { job = job.now; plan = plan.now })) out_job.old out_plan.old
+        ≡ record { answer = result; job = out_job.new; plan = out_plan.new } }
+{
+    let mut scratch = [0u8; Job::MAX_LENGTH];
+    let len = put_job(&mut scratch, job);
+    room(out_job, len)?;
+    let need = 8 + 16 * (plan.task_count as usize);
+    room(out_plan, need)?;
+    out_job[..len].copy_from_slice(&scratch[..len]);
+    put_plan(out_plan, plan);
+    Ok(())
 }
 
 // Both as files. Nothing is written before it is known that both have room.
@@ -65,16 +99,9 @@ pub fn commit_into(
     ensures { commit_into job.now plan.now booking.now out_job.old out_plan.old
         ≡ record { answer = result; job = out_job.new; plan = out_plan.new } }
 {
-    let booked = commit_files(job, plan, booking)?;
-    let (job, plan) = (&booked.0, &booked.1);
-    let mut scratch = [0u8; Job::MAX_LENGTH];
-    let len = put_job(&mut scratch, job);
-    room(out_job, len)?;
-    let need = 8 + 16 * (plan.task_count as usize);
-    room(out_plan, need)?;
-    out_job[..len].copy_from_slice(&scratch[..len]);
-    put_plan(out_plan, plan);
-    Ok(())
+    let mut longer = Job::empty();
+    let places = commit_files(job, plan, booking, &mut longer)?;
+    write_both(&longer, &places, out_job, out_plan)
 }
 
 // Where one task more would go, as four numbers. Nothing is booked.

@@ -1,24 +1,12 @@
--- A commit into two buffers: refused, or the longer job or plan has no room, or both are written.
-use Rattle.reader.proofs.NumberLaws.{is_none, is_fault}
-use Rattle.booking.proofs.CommitCalls.{into_refused, no_job_room, no_plan_room, both_written}
+-- A commit into two buffers: refused, or what writing both gives.
+use Rattle.booking.proofs.CommitCalls.{into_refused, both_sound, into_buffers}
 use Rattle.booking.proofs.commit_into.Goals as goal
 
-pub returns-in_err-booked : goal.returns-in_err-booked
-returns-in_err-booked c = into_refused _ _ _ _ _ c.commit_files.ensures c.in_err-booked.was _ c.from_residual.ensures.1
+pub returns-in_err-places : goal.returns-in_err-places
+returns-in_err-places c = into_refused _ _ _ _ c.commit_files.ensures c.in_err-places.was _ c.from_residual.ensures.1 _ _
 
-pub returns-in_err-room : goal.returns-in_err-room
-returns-in_err-room c =
-    no_job_room _ _ _ _ _ c.commit_files.ensures c.in_ok-booked.was c.put_job-len.ensures.1
-    (is_fault _ _ _ c.room.ensures.answer c.in_err-room.was) _ c.from_residual-in_err-room.ensures.1
-
-pub returns-in_err-room-2 : goal.returns-in_err-room-2
-returns-in_err-room-2 c =
-    no_plan_room _ _ _ _ _ c.commit_files.ensures c.in_ok-booked.was c.put_job-len.ensures.1
-    (is_none _ _ _ c.room.ensures.answer c.in_ok-room.was) (is_fault _ _ _ c.room-2.ensures.answer c.in_err-room-2.was) _
-    c.from_residual-in_err-room-2.ensures.1
+pub write_both-requires : goal.write_both-requires
+write_both-requires c = both_sound _ _ _ _ c.commit_files.ensures c.in_ok-places.was
 
 pub returns : goal.returns
-returns c =
-    rw c.copy_from_slice.ensures.after
-    (both_written _ _ _ _ _ c.commit_files.ensures c.in_ok-booked.was c.put_job-len.ensures.1
-    (is_none _ _ _ c.room.ensures.answer c.in_ok-room.was) (is_none _ _ _ c.room-2.ensures.answer c.in_ok-room-2.was) c.put_plan.ensures.1)
+returns c = into_buffers _ _ _ _ c.commit_files.ensures c.in_ok-places.was _ _ c.write_both.ensures
