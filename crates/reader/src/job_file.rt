@@ -85,6 +85,7 @@ fn read_nodes(
 }
 
 // A run time for each node, from offset `at`; the part begins at offset `base` of the file.
+#[inline(always)]
 fn read_run(
     part: &[u8],
     base: usize,
@@ -104,6 +105,7 @@ fn read_run(
 }
 
 // One task at offset `at`, and the offset behind it: its ready time where the version has it, its deadline, then its run times.
+#[inline(always)]
 pub fn read_task(
     part: &[u8],
     base: usize,
@@ -175,6 +177,7 @@ pub fn below(l: Link, m: Link) -> bool
 }
 
 // One link at an offset, between tasks below `tasks`, behind the link `before`.
+#[inline(always)]
 fn read_link(file: &[u8], at: usize, tasks: usize, before: Link) -> Result<Link, Refusal>
     requires { (at ≤ 16384) × (min_tasks ≤ tasks) × (tasks ≤ max_tasks) }
     ensures { Reads (link_fault file.now at tasks before) result (λ link. link ≡ link_at file.now at) }

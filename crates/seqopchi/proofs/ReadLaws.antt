@@ -27,7 +27,7 @@ use Rattle.reader.proofs.FirstLaws.{or_else_l, or_else_r, unless_none, any_i, an
 use Rattle.reader.proofs.TestLaws.{split}
 use Rattle.reader.proofs.RefusalLaws.{answered_refused}
 use Rattle.reader.proofs.NumberLaws.{is_none, is_value, is_fault}
-use Rattle.reader.proofs.Chain.{pass, stop, handed, given as both_given}
+use Rattle.reader.proofs.Chain.{pass, stop, handed}
 use Rattle.reader.proofs.Promise.{job_sound as sound_job, plan_sound}
 use Rattle.writer.specs.Write.{room_fault, Written, writes}
 use Rattle.rules.specs.declared.Loss.{Loss}
@@ -145,21 +145,6 @@ module _ (file : List ℕ) {w : Result Job Refusal} (is : w ≡ read_job file) w
       unfolding files_fault
       both_done q =
           record { fault = pass _ job_fine ∙ is_none _ _ _ plan_read q; job_is = job_is; plan_is = is_value _ _ _ plan_read q }
-
-      pub plan_reads : {x : Plan} → p ≡ Ok x
-          → ◌≡◌ {A = Result (Job × Plan) Refusal} (Ok (job, x)) (resulted (files_fault file plan) (job_at file, plan_in file plan))
-      plan_reads q = let d = both_done q in both_given _ d.fault (ap₂ (λ j x. (j, x)) d.job_is d.plan_is)
-
--- both, as `read_files` gives them
-module _ (file plan : List ℕ) {w : Result (Job × Plan) Refusal}
-    (is : ◌≡◌ {A = Result (Job × Plan) Refusal} w (resulted (files_fault file plan) (job_at file, plan_in file plan))) where
-  pub files_bad : {r : Refusal} → w ≡ Err r → files_fault file plan ≡ some r
-  files_bad q = is_fault _ _ _ is q
-
-  pub files_done : {x : Job × Plan} → w ≡ Ok x → FilesDone file plan x.0 x.1
-  files_done q =
-      let e = is_value _ _ _ is q in
-      record { fault = is_none _ _ _ is q; job_is = ap (λ x. x.0) e; plan_is = ap (λ x. x.1) e }
 
 module _ (file plan : List ℕ) (job : Job) (places : Plan) (d : FilesDone file plan job places) where
   pub both_sound : Sound job × PlanSound job places
