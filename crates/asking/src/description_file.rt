@@ -1,11 +1,10 @@
 // Reading the description of an extra task, after its job.
 ghost use Rattle.std.specs.Prelude.{◌≡◌, ◌+◌, ◌*◌, ◌≤◌, replicate, IfOk};
-ghost use Rattle.reader.specs.declared.job.Job.{Job};
 ghost use Rattle.reader.specs.Limits.{min_tasks, max_tasks, max_links};
 ghost use Rattle.reader.specs.Number.{number_at};
-ghost use Rattle.reader.specs.Entries.{no_link};
+ghost use Rattle.reader.specs.Entries.{nodes, tasks, no_link};
 ghost use Rattle.reader.specs.Reads.{Reads};
-ghost use Rattle.asking.specs.Sizes.{Sizes, sized};
+ghost use Rattle.asking.specs.Sizes.{Sizes};
 ghost use Rattle.asking.specs.DescriptionFile.{new_link_fault, new_link_at, new_links_fault, new_links_at};
 ghost use Rattle.asking.specs.DescriptionFile.{description_fault, description_at, description_length, question_fault, booking_fault, booked_place};
 
@@ -54,20 +53,16 @@ fn read_new_links(
     Ok((count, at + 4 + 8 * count))
 }
 
-// The task's entry, then its links; and the offset behind them. The three numbers are the job's: the job itself would be copied.
-fn read_description(
-    file: &[u8],
-    version: usize,
-    nodes: usize,
-    tasks: usize,
-) -> Result<(Description, usize), Refusal>
-    requires { Sizes nodes tasks }
+// The task's entry, then its links; and the offset behind them.
+fn read_description(file: &[u8], job: &Job) -> Result<(Description, usize), Refusal>
+    requires { Sizes (nodes job.now) (tasks job.now) }
     ensures end_bound { IfOk result (λ read. read.1 ≤ 8192) }
-    ensures reads { (job : Job) → Reads (description_fault file.now (sized job version nodes tasks)) result
-        (λ read. (read.0 ≡ description_at file.now (sized job version nodes tasks))
-        × (read.1 ≡ description_length file.now (sized job version nodes tasks))) }
+    ensures reads { Reads (description_fault file.now job.now) result
+        (λ read. (read.0 ≡ description_at file.now job.now)
+        × (read.1 ≡ description_length file.now job.now)) }
 {
-    let (task, at) = read_task(file, 0, version, 0, nodes)?;
+    let tasks = job.task_count as usize;
+    let (task, at) = read_task(file, 0, job.version as usize, 0, job.node_count as usize)?;
     let mut description = Description {
         task,
         link_count: 0,
@@ -79,17 +74,12 @@ fn read_description(
 }
 
 // What is asked: a description, and nothing behind it.
-pub fn read_question(
-    file: &[u8],
-    version: usize,
-    nodes: usize,
-    tasks: usize,
-) -> Result<Description, Refusal>
-    requires { Sizes nodes tasks }
-    ensures { (job : Job) → Reads (question_fault file.now (sized job version nodes tasks)) result
-        (λ description. description ≡ description_at file.now (sized job version nodes tasks)) }
+pub fn read_question(file: &[u8], job: &Job) -> Result<Description, Refusal>
+    requires { Sizes (nodes job.now) (tasks job.now) }
+    ensures { Reads (question_fault file.now job.now) result
+        (λ description. description ≡ description_at file.now job.now) }
 {
-    let (description, end) = read_description(file, version, nodes, tasks)?;
+    let (description, end) = read_description(file, job)?;
     if end < file.len() {
         return Err(Refusal::Tail(end));
     }
@@ -97,18 +87,14 @@ pub fn read_question(
 }
 
 // What is committed: a description, then the four numbers of its place.
-pub fn read_booking(
-    file: &[u8],
-    version: usize,
-    nodes: usize,
-    tasks: usize,
-) -> Result<(Description, Place), Refusal>
-    requires { Sizes nodes tasks }
-    ensures { (job : Job) → Reads (booking_fault file.now (sized job version nodes tasks)) result
-        (λ booking. (booking.0 ≡ description_at file.now (sized job version nodes tasks))
-        × (booking.1 ≡ booked_place file.now (sized job version nodes tasks))) }
+pub fn read_booking(file: &[u8], job: &Job) -> Result<(Description, Place), Refusal>
+    requires { Sizes (nodes job.now) (tasks job.now) }
+    ensures { Reads (booking_fault file.now job.now) result
+        (λ booking. (booking.0 ≡ description_at file.now job.now)
+        × (booking.1 ≡ booked_place file.now job.now)) }
 {
-    let (description, at) = read_description(file, version, nodes, tasks)?;
+    let (description, at) = read_description(file, job)?;
+    let nodes = job.node_count as usize;
     let place = read_place(file, at, nodes, description.task.run)?;
     let end = at + 16;
     if end < file.len() {

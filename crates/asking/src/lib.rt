@@ -3,10 +3,9 @@
 
 ghost use Rattle.std.specs.Prelude.{◌≡◌};
 ghost use Rattle.reader.specs.declared.job.Job.{Job};
-ghost use Rattle.reader.specs.Entries.{tasks as tasks_of, links as links_of};
 ghost use Rattle.reader.specs.Refusals.{answered};
 ghost use Rattle.rules.specs.declared.Description.{Description};
-ghost use Rattle.rules.specs.Description.{new_links, full_fault};
+ghost use Rattle.rules.specs.Description.{full_fault};
 ghost use Rattle.rules.specs.Asking.{ask as ask_of, commit as commit_of};
 ghost use Rattle.asking.specs.Calls.{Asking, Committing, asked, committed, with_job};
 
@@ -23,13 +22,13 @@ pub mod beside;
 pub mod description_file;
 pub mod longer;
 
-// Whether one task more, with so many links, has room.
-pub fn full(tasks: u32, links: u32, new: u32) -> Result<(), Refusal>
-    ensures { (job : Job) (d : Description) → tasks_of job ≡ tasks → links_of job ≡ links → new_links d ≡ new
-        → result ≡ answered (full_fault job d) }
+// Whether the described task, with its links, has room in the job.
+pub fn full(job: &Job, d: &Description) -> Result<(), Refusal>
+    ensures { result ≡ answered (full_fault job.now d.now) }
 {
-    let n = tasks as usize;
-    if n < Job::MAX_TASKS && (links as usize) + (new as usize) <= Job::MAX_LINKS {
+    let n = job.task_count as usize;
+    let links = job.link_count as usize + d.link_count as usize;
+    if n < Job::MAX_TASKS && links <= Job::MAX_LINKS {
         return Ok(());
     }
     Err(Refusal::Full(n))

@@ -38,11 +38,8 @@ pub fn ask_files(job: &[u8], plan: &[u8], task: &[u8]) -> Result<Place, Refusal>
 {
     let mut held = Job::empty();
     let plan = passed_files(job, plan, &mut held)?;
-    let version = held.version as usize;
-    let nodes = held.node_count as usize;
-    let tasks = held.task_count as usize;
-    let description = read_question(task, version, nodes, tasks)?;
-    full(held.task_count, held.link_count, description.link_count)?;
+    let description = read_question(task, &held)?;
+    full(&held, &description)?;
     ask(&held, &plan, &description)
 }
 
@@ -58,11 +55,8 @@ pub fn commit_files(
 {
     let mut held = Job::empty();
     let plan = passed_files(job, plan, &mut held)?;
-    let version = held.version as usize;
-    let nodes = held.node_count as usize;
-    let tasks = held.task_count as usize;
-    let (description, place) = read_booking(booking, version, nodes, tasks)?;
-    full(held.task_count, held.link_count, description.link_count)?;
+    let (description, place) = read_booking(booking, &held)?;
+    full(&held, &description)?;
     commit(&held, &plan, &description, place, longer)
 }
 

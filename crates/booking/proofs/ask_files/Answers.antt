@@ -14,26 +14,26 @@ read_question-requires c = held_sizes _ _ c.passed_files.ensures (paired _ c.in_
 
 pub returns-in_err-description : goal.returns-in_err-description
 returns-in_err-description c =
-    let read = c.read_question.ensures c.passed_files.new.held in
+    let read = c.read_question.ensures in
     ask_stops _ _ _ (read_stops _ _ c.passed_files.ensures question_fault _ (paired _ c.in_ok-plan.was) read c.in_err-description.was) _
     c.from_residual-in_err-description.ensures.1
 
 pub returns-in_err-full : goal.returns-in_err-full
 returns-in_err-full c =
-    let read = c.read_question.ensures c.passed_files.new.held in
+    let read = c.read_question.ensures in
     let bad = full_stops _ _ c.passed_files.ensures question_fault _ (paired _ c.in_ok-plan.was) read c.in_ok-description.was
-    (reads_value read c.in_ok-description.was) (c.full.ensures _ _ refl refl refl) c.in_err-full.was in
+    (reads_value read c.in_ok-description.was) c.full.ensures c.in_err-full.was in
     ask_stops _ _ _ bad _ c.from_residual-in_err-full.ensures.1
 
 pub ask-requires : goal.ask-requires
 ask-requires c =
-    let read = c.read_question.ensures c.passed_files.new.held in
+    let read = c.read_question.ensures in
     asking _ _ _ (ready _ _ c.passed_files.ensures question_fault _ (paired _ c.in_ok-plan.was) read c.in_ok-description.was
-    (reads_value read c.in_ok-description.was) (c.full.ensures _ _ refl refl refl) c.in_ok-full.was)
+    (reads_value read c.in_ok-description.was) c.full.ensures c.in_ok-full.was)
 
 pub returns : goal.returns
 returns c =
-    let read = c.read_question.ensures c.passed_files.new.held in
+    let read = c.read_question.ensures in
     let all = ready _ _ c.passed_files.ensures question_fault _ (paired _ c.in_ok-plan.was) read c.in_ok-description.was
-    (reads_value read c.in_ok-description.was) (c.full.ensures _ _ refl refl refl) c.in_ok-full.was in
+    (reads_value read c.in_ok-description.was) c.full.ensures c.in_ok-full.was in
     ask_done _ _ _ all c.ask.ensures

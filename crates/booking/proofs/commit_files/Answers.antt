@@ -14,29 +14,29 @@ read_booking-requires c = held_sizes _ _ c.passed_files.ensures (paired _ c.in_o
 
 pub returns-in_err-description : goal.returns-in_err-description
 returns-in_err-description c =
-    let read = c.read_booking.ensures c.passed_files.new.held in
+    let read = c.read_booking.ensures in
     commit_stops _ _ _ (read_stops _ _ c.passed_files.ensures booking_fault _ (paired _ c.in_ok-plan.was) read c.in_err-description.was) _
     c.from_residual-in_err-description.ensures.1 _
 
 pub returns-in_err-full : goal.returns-in_err-full
 returns-in_err-full c =
-    let read = c.read_booking.ensures c.passed_files.new.held in
+    let read = c.read_booking.ensures in
     let bad = full_stops _ _ c.passed_files.ensures booking_fault _ (paired _ c.in_ok-plan.was) read c.in_ok-description.was
-    (reads_value read c.in_ok-description.was).0 (c.full.ensures _ _ refl refl refl) c.in_err-full.was in
+    (reads_value read c.in_ok-description.was).0 c.full.ensures c.in_err-full.was in
     commit_stops _ _ _ bad _ c.from_residual-in_err-full.ensures.1 _
 
 pub commit-requires : goal.commit-requires
 commit-requires c =
-    let read = c.read_booking.ensures c.passed_files.new.held in
+    let read = c.read_booking.ensures in
     let value = reads_value read c.in_ok-description.was in
     let all = ready _ _ c.passed_files.ensures booking_fault _ (paired _ c.in_ok-plan.was) read c.in_ok-description.was value.0
-    (c.full.ensures _ _ refl refl refl) c.in_ok-full.was in
+    c.full.ensures c.in_ok-full.was in
     committing _ _ _ all value.1
 
 pub returns : goal.returns
 returns c =
-    let read = c.read_booking.ensures c.passed_files.new.held in
+    let read = c.read_booking.ensures in
     let value = reads_value read c.in_ok-description.was in
     let all = ready _ _ c.passed_files.ensures booking_fault _ (paired _ c.in_ok-plan.was) read c.in_ok-description.was value.0
-    (c.full.ensures _ _ refl refl refl) c.in_ok-full.was in
+    c.full.ensures c.in_ok-full.was in
     commit_done _ _ _ all value.1 c.commit.ensures
