@@ -17,7 +17,7 @@ use reader::job::{Job, Task};
 use reader::refusal::Refusal;
 use writer::put_run;
 
-// A time seen, or the job's where there is none.
+// A time seen, or the job's where there is none: 0 is no time, and an Option for each cell is no plainer.
 fn time_of(seen: u32, run: u32) -> u32
     ensures { result ≡ or_else_run seen run }
 {

@@ -26,7 +26,7 @@ pub fn primary_search(task: Task, nodes: usize, ready: Ready, least: u32, shut: 
     }
 }
 
-// A backup is on no node of a group in the fault set.
+// A backup is on no node of a group in the fault set. Beside the other: one function of both would take all that either does.
 pub fn backup_search(
     task: Task,
     nodes: usize,

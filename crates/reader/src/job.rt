@@ -52,7 +52,8 @@ impl Link {
     };
 }
 
-// What the arrays hold beyond their counts is no part of the job, and a field that its version lacks is none.
+// What the arrays hold beyond their counts is no part of the job, and a field that its version lacks is none. Arrays and counts, since there is no
+// heap; `Sound` is a clause and no invariant of the type, since writers take any job and the theorems of demand 2 and 3 name it.
 #[derive(Clone, Copy)]
 pub struct Job {
     pub version: u32,

@@ -5,7 +5,7 @@ ghost use Rattle.replay.specs.Inputs.{sent_at, sent_from};
 use crate::states::{Outcome, State};
 use reader::plan::Place;
 
-// Later than any start: what no copy finished is never there.
+// Later than any start: what no copy finished is never there. A number, since the turn of a link compares it as one.
 pub const NEVER: u32 = 4_000_000;
 
 #[tactic(auto, unfolding(crate::specs::Inputs::sent_at))]

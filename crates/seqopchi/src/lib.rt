@@ -126,7 +126,7 @@ pub fn seqopchi_plan(job: &[u8], out: &mut [u8]) -> u64
     result_number(plan_file(job, out))
 }
 
-// Replays two files with no loss: three numbers for each task.
+// Replays two files with no loss: three numbers for each task. C has a function for each of the four.
 pub fn seqopchi_replay(job: &[u8], plan: &[u8], out: &mut [u8]) -> u64
     ensures { (result ≡ result_number (replay_files job.now plan.now NoLoss none out.old).answer)
         × (out.new ≡ (replay_files job.now plan.now NoLoss none out.old).buffer) }

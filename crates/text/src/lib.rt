@@ -47,6 +47,7 @@ fn put_rows(page: &mut Page<'_>, places: &[Place])
     }
 }
 
+// The plan as a value: of a lent one the length of its array is no fact of the proof.
 fn put_plan(page: &mut Page<'_>, plan: Plan)
     requires { (plan.task_count ≤ max_tasks) × (page.old.end + max_text ≤ length page.old.buffer.now) }
     ensures { (page.new.end ≤ page.old.end + max_text) × Grows page.old page.new (plan_text plan) }

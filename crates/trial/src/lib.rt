@@ -24,7 +24,7 @@ use reader::plan::Plan;
 use reader::plan_file::read_plan;
 use reader::refusal::{Refusal, result_number};
 
-// Number 0 and first place 1.
+// Number 0 and first place 1: what C is given for no.
 const NO: u64 = 256;
 
 // The pass behind the last primary is that without loss. Two passes hold the losses of all others. What the judge says of the table is put aside.
