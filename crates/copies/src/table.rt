@@ -5,7 +5,8 @@ ghost use Rattle.copies.specs.Table.{copy_count, entry, empty_copies, Whole, Sto
 use reader::job::Job;
 use rules::Copy;
 
-// A backup's set is its task's fault set, a primary's is every group, so that one clash test serves both.
+// A backup's set is its task's fault set, a primary's is every group, so that one clash test serves both. Four arrays, of which a loop reads those that
+// it needs; when results leave is an array beside them, which half of what is lent the table has no use for.
 #[derive(Clone, Copy)]
 pub struct Copies {
     pub node: [u32; Copies::COUNT],

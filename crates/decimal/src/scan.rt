@@ -11,7 +11,7 @@ pub struct Found {
     pub end: usize,
 }
 
-// A number with one digit more; 0 where it would not fit.
+// A number with one digit more; 0 where it would not fit, as the definition has it: no refusal has that number either.
 fn grown(v: usize, b: u8) -> usize
     requires { is_digit b ≡ true }
     ensures { result ≡ grown v b }

@@ -30,7 +30,7 @@ pub fn run_times(file: &[u8], log: &[u8], out: &mut [u8]) -> Result<(), Refusal>
     Ok(())
 }
 
-// The job file with these run times.
+// The job file with these run times: the steps of the call above, but each asks for its own room between the job and the log.
 pub fn renew_job(file: &[u8], log: &[u8], out: &mut [u8]) -> Result<(), Refusal>
     ensures { renew_job file.now log.now out.old ≡ record { answer = result; buffer = out.new } }
 {

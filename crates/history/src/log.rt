@@ -33,7 +33,7 @@ impl RunTimes {
     }
 }
 
-// A node at an offset that can run the task.
+// A node at an offset that can run the task: as a plan's, but of run times in one row, by the task's number.
 fn read_node(log: &[u8], at: usize, task: u32, times: &RunTimes) -> Result<u32, Refusal>
     requires { (at + 4 < 2 ^ 64) × (task < max_tasks) }
     ensures by_index { IfOk result (λ v. v < max_nodes) }

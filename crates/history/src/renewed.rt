@@ -24,7 +24,7 @@ fn time_of(seen: u32, run: u32) -> u32
     if seen == 0 { run } else { seen }
 }
 
-// Task j with the times seen.
+// Task j with the times seen; field by field, of which a wrong program of the gate loses one.
 fn new_task(task: &Task, j: usize, nodes: usize, seen: &[u32; Window::CELLS]) -> Task
     requires { (j < max_tasks) × (nodes ≤ max_nodes) }
     ensures { result ≡ renewed_task nodes (row_time seen.now task.now.run j) task.now }

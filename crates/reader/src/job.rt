@@ -19,7 +19,7 @@ impl Node {
     };
 }
 
-// A run time of 0 says that the node cannot run the task.
+// A run time of 0 says that the node cannot run the task, here as in the file: the array is the file's row.
 #[derive(Clone, Copy)]
 pub struct Task {
     pub ready: u32,

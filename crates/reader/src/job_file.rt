@@ -138,7 +138,8 @@ pub fn read_task(
     Ok((task, then + 4 + 4 * nodes))
 }
 
-// The task section, with which the part begins, into a list without tasks; gives how many there are, and the offset behind them.
+// The task section, with which the part begins, into a list without tasks; gives how many there are, and the offset behind them. A loop beside that of the
+// nodes: what both share is four lines, and each clause names its own definition.
 fn read_tasks(
     part: &[u8],
     base: usize,

@@ -22,6 +22,7 @@ impl Place {
     };
 }
 
+// A count and an array, as a job has them.
 #[derive(Clone, Copy)]
 pub struct Plan {
     pub version: u32,

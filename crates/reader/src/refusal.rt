@@ -29,7 +29,7 @@ pub enum Refusal {
     NotASentence(usize),
 }
 
-// A row of the table: the refusal's number and both places.
+// A row of the table: the refusal's number and both places, which C is given as numbers.
 #[derive(Clone, Copy)]
 pub struct Told {
     pub number: u32,
@@ -48,7 +48,7 @@ impl Told {
         }
     }
 
-    // The number in the lowest 8 bits, the first place in the next 32, the second in the top 24.
+    // C's form, for which there is no method: the number in the lowest 8 bits, the first place in the next 32, the second in the top 24.
     fn packed(self) -> u64
         ensures { result ≡ packed self }
     {

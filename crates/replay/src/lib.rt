@@ -39,7 +39,7 @@ pub fn replay_plan(job: &Job, plan: &Plan, times: Option<&Times>, loss: Loss) ->
     let mut r = Progress::start();
     let mut k: usize = 0;
     for j in 0..n {
-        // No for: k goes on behind the links that went out before.
+        // No for: k goes on behind the links that went out before, and a function for the walk, as the trial's, would be lent five things.
         while k < m && (job.links[k].from as usize) < j {
             let l = job.links[k];
             let node = r.node[l.from as usize];

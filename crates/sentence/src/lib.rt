@@ -63,7 +63,7 @@ fn says(text: &[u8], told: Told) -> bool
     text == &line[..length]
 }
 
-// The three numbers of a text, 0 for one that is not there.
+// The three numbers of a text, 0 for one that is not there, as the definition (`shown`) has it.
 fn numbers(text: &[u8]) -> (usize, usize, usize)
     ensures { shown text.now ≡ told result.0 result.1 result.2 }
 {

@@ -26,6 +26,7 @@ use replay::times_file::read_list;
 use rules::Loss;
 use writer::{put_number, put_plan, room};
 
+// Each call reads both files by two lines: handed back as one value they would be copied at each `?`.
 fn judge_files(job: &[u8], plan: &[u8]) -> Result<(), Refusal>
     ensures { result ≡ answered (judge_files job.now plan.now) }
 {
@@ -89,7 +90,7 @@ fn replay_files(
     Ok(())
 }
 
-// Puts the fault sets of the first n tasks, entries of the table of copies, from the buffer's front.
+// Puts the fault sets of the first n tasks, every second entry of the table of copies, from the buffer's front: rows put one by one, not side by side.
 fn put_sets(out: &mut [u8], sets: &[u32; Copies::COUNT], n: usize)
     requires { (n ≤ max_tasks) × (4 * n ≤ length out.old) }
     ensures { Rows (λ j. get_or sets.now (2 * j + 1) 0 ∷ []) 4 out.old 0 n out.new (4 * n) }

@@ -41,7 +41,7 @@ pub fn trial_plan(job: &Job, plan: &Plan) -> bool
         && (n <= RUNS || pass(job, &copies, &leave, RUNS, false))
 }
 
-// The same of two files.
+// The same of two files, read by two lines as in each call on a plan.
 fn trial_files(job: &[u8], plan: &[u8]) -> Result<bool, Refusal>
     ensures { Reads (files_fault job.now plan.now) result (λ good. (good ≡ true) ↔ Trial (job_at job.now) (plan_in job.now plan.now)) }
 {

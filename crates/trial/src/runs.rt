@@ -10,7 +10,7 @@ use copies::table::Copies;
 use reader::job::{Job, Link};
 use rules::Copy;
 
-// Of each copy the runs in which it ends, and those in which it starts.
+// Of each copy the runs in which it ends, and those in which it starts: two arrays, of which the judge is lent the second.
 #[derive(Clone, Copy)]
 pub struct Outcomes {
     pub ended: [u32; Copies::COUNT],

@@ -18,7 +18,7 @@ use reader::plan::{Place, Plan};
 use reader::plan_file::read_plan;
 use reader::refusal::Refusal;
 
-// Puts a number at an offset.
+// Puts a number at an offset; the library's bytes and copy under the clause that all files rest on.
 pub fn put_number(d: &mut [u8], at: usize, v: u32)
     requires { at + 4 ≤ length d.old }
     ensures { d.new ≡ splice d.old at (bytes v) }
@@ -166,7 +166,7 @@ pub fn put_run(d: &mut [u8], from: usize, count: usize, run: &[u32; Job::MAX_NOD
     put_rows(d, from, (), count, run)
 }
 
-// A count, or the length of the array that it counts.
+// A count, or the length of the array that it counts; a name for the library's min after a cast, for three callers.
 fn clip(count: u32, most: usize) -> usize
     ensures { result ≡ min count most }
 {
