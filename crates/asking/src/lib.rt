@@ -52,12 +52,16 @@ pub fn commit(
     longer: &mut Job,
 ) -> Result<Plan, Refusal>
     requires { Committing job.now plan.now d.now place }
-    ensures { with_job result longer.new ≡ committed (commit_of job.now plan.now d.now place) }
+    ensures answer { with_job result longer.new ≡ committed (commit_of job.now plan.now d.now place) }
+    ensures kept { (r : Refusal) → result ≡ Err r → longer.new ≡ longer.old }
 {
-    *longer = longer_job(job, d);
+    let whole = longer_job(job, d);
     let places = longer_plan(job, plan, place);
-    match judge_plan(longer, &places) {
-        Ok(()) => Ok(places),
+    match judge_plan(&whole, &places) {
+        Ok(()) => {
+            *longer = whole;
+            Ok(places)
+        },
         Err(_) => Err(Refusal::Stale(job.task_count as usize)),
     }
 }

@@ -51,7 +51,8 @@ pub fn commit_files(
     booking: &[u8],
     longer: &mut Job,
 ) -> Result<Plan, Refusal>
-    ensures { with_job result longer.new ≡ committed (commit_files job.now plan.now booking.now) }
+    ensures answer { with_job result longer.new ≡ committed (commit_files job.now plan.now booking.now) }
+    ensures kept { (r : Refusal) → result ≡ Err r → longer.new ≡ longer.old }
 {
     let mut held = Job::empty();
     let plan = passed_files(job, plan, &mut held)?;

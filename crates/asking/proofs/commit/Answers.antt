@@ -5,14 +5,14 @@ use Rattle.asking.proofs.commit.Goals as goal
 pub judge_plan-requires : goal.judge_plan-requires
 judge_plan-requires c =
     let ok = c.requires in
-    (big_sound _ _ _ ok.asking _ c.longer_job.ensures, long_planned _ _ _ _ ok _ c.longer_job.ensures _ c.longer_plan-places.ensures)
+    (big_sound _ _ _ ok.asking _ c.longer_job-whole.ensures, long_planned _ _ _ _ ok _ c.longer_job-whole.ensures _ c.longer_plan-places.ensures)
 
-pub returns-in-Err : goal.returns-in-Err
-returns-in-Err c =
-    commit_refused _ _ _ _ c.requires _ c.longer_job.ensures _ c.longer_plan-places.ensures _
+pub returns-in-Err-clause-answer : goal.returns-in-Err-clause-answer
+returns-in-Err-clause-answer c =
+    commit_refused _ _ _ _ c.requires _ c.longer_job-whole.ensures _ c.longer_plan-places.ensures _
     c.judge_plan.ensures c.in-Err.is
 
-pub returns-in-Ok : goal.returns-in-Ok
-returns-in-Ok c =
-    commit_done _ _ _ _ c.requires _ c.longer_job.ensures _ c.longer_plan-places.ensures _
+pub returns-in-Ok-clause-answer : goal.returns-in-Ok-clause-answer
+returns-in-Ok-clause-answer c =
+    commit_done _ _ _ _ c.requires _ c.longer_job-whole.ensures _ c.longer_plan-places.ensures _
     c.judge_plan.ensures c.in-Ok.is

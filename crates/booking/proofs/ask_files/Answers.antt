@@ -1,5 +1,4 @@
 -- Asking on files: a refusal of a step, or the answer of the last one.
-use Rattle.std.proofs.Common.{refl}
 use Rattle.reader.proofs.Chain.{reads_value}
 use Rattle.asking.specs.DescriptionFile.{question_fault}
 use Rattle.booking.proofs.AskCalls.{paired, refused_pair, held_sizes, files_stop, read_stops, full_stops, ready, ask_stops, asking, ask_done}
