@@ -57,11 +57,9 @@ pub fn commit(
 {
     let whole = longer_job(job, d);
     let places = longer_plan(job, plan, place);
-    match judge_plan(&whole, &places) {
-        Ok(()) => {
-            *longer = whole;
-            Ok(places)
-        },
-        Err(_) => Err(Refusal::Stale(job.task_count as usize)),
-    }
+    let Ok(()) = judge_plan(&whole, &places) else {
+        return Err(Refusal::Stale(job.task_count as usize));
+    };
+    *longer = whole;
+    Ok(places)
 }

@@ -7,12 +7,12 @@ judge_plan-requires c =
     let ok = c.requires in
     (big_sound _ _ _ ok.asking _ c.longer_job-whole.ensures, long_planned _ _ _ _ ok _ c.longer_job-whole.ensures _ c.longer_plan-places.ensures)
 
-pub returns-in-Err-clause-answer : goal.returns-in-Err-clause-answer
-returns-in-Err-clause-answer c =
+pub returns-in_default-clause-answer : goal.returns-in_default-clause-answer
+returns-in_default-clause-answer c =
     commit_refused _ _ _ _ c.requires _ c.longer_job-whole.ensures _ c.longer_plan-places.ensures _
-    c.judge_plan.ensures c.in-Err.is
+    c.judge_plan.ensures c.in_default.is
 
-pub returns-in-Ok-clause-answer : goal.returns-in-Ok-clause-answer
-returns-in-Ok-clause-answer c =
+pub returns-clause-answer : goal.returns-clause-answer
+returns-clause-answer c =
     commit_done _ _ _ _ c.requires _ c.longer_job-whole.ensures _ c.longer_plan-places.ensures _
     c.judge_plan.ensures c.in-Ok.is
