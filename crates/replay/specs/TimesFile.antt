@@ -1,6 +1,6 @@
 -- A list of actual times after its job and plan, document 02, (viii): its first fault in file order, and the times, each number where it stands.
 use Rattle.std.specs.Prelude.{ℕ, ◌+◌, ◌*◌, ◌<◌, List, [], ◌∷◌, ◌≡◌, length, replicate}
-use Rattle.std.specs.Prelude.{Option as Opt, Some, None}
+use Rattle.std.specs.Prelude.{Option as Maybe, Some, None}
 use Rattle.std.specs.Borrow.{Bor}
 use Rattle.std.proofs.Math.Option.{Option, none, some}
 use Rattle.reader.specs.declared.job.Job.{Job}
@@ -53,22 +53,22 @@ list_times none job plan = listed_times job plan
 list_times (some s) job plan = times_at s (tasks job)
 
 -- such a list, as a call is given it
-abbrev pub list_of : Opt (Bor (List ℕ)) → Option (List ℕ)
+abbrev pub list_of : Maybe (Bor (List ℕ)) → Option (List ℕ)
 list_of None = none
 list_of (Some s) = some s.now
 
 -- its times
-unfoldable pub times_in : Option (List ℕ) → Job → Opt Times
+unfoldable pub times_in : Option (List ℕ) → Job → Maybe Times
 times_in none job = None
 times_in (some s) job = Some (times_at s (tasks job))
 
 -- what is taken where times are given or not
-unfoldable pub chosen : Opt Times → Job → Plan → Times
+unfoldable pub chosen : Maybe Times → Job → Plan → Times
 chosen None job plan = listed_times job plan
 chosen (Some times) job plan = times
 
 -- and of the two numbers of task j, of which these are listed
-unfoldable pub took_by : Opt Times → ℕ → Took → Took
+unfoldable pub took_by : Maybe Times → ℕ → Took → Took
 took_by None j most = most
 took_by (Some times) j most = took times j
 

@@ -11,7 +11,7 @@ use native.Mathlib.Omega.{arith}
 use Rattle.std.specs.Bool.{MatchBool}
 use Rattle.std.specs.List.{HoldsAt, AllWithin}
 use Rattle.std.proofs.lemmas.List.{get_or-take}
-use Rattle.std.specs.Prelude.{Option as Opt, Result, Ok, Err, IsErrAnd}
+use Rattle.std.specs.Prelude.{Option as Maybe, Result, Ok, Err, IsErrAnd}
 use Rattle.reader.specs.declared.job.Job.{Job}
 use Rattle.reader.specs.declared.job.Node.{Node}
 use Rattle.reader.specs.declared.plan.Plan.{Plan}
@@ -177,7 +177,7 @@ module _ (file plan : List ℕ) (job : Job) (places : Plan) (d : FilesDone file 
       bad_list q = to_list ∙ stop _ q
 
       -- a list without fault, and the times in it, if it is given
-      module _ (fine : list_fault list job places ≡ none) (times : Opt Times) (are : times ≡ times_in list job) where
+      module _ (fine : list_fault list job places ≡ none) (times : Maybe Times) (are : times ≡ times_in list job) where
         to_room : replay_fault file plan loss list out ≡ room_fault out (12 * tasks job)
         to_room = to_list ∙ pass _ fine
 
