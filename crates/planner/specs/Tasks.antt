@@ -18,7 +18,7 @@ use Rattle.rules.specs.Planner.{place_tasks, anywhere}
 use Rattle.copies.specs.declared.table.Copies.{Copies}
 use Rattle.copies.specs.Arrival.{leave_by, Leaving}
 use Rattle.copies.specs.Sets.{has, every_group}
-use Rattle.copies.specs.Table.{copy_count, entry, set_at, row_of, empty_copies, Whole, Held}
+use Rattle.copies.specs.Table.{copy_count, node_at, entry, set_at, row_of, empty_copies, Whole, Held}
 use Rattle.copies.specs.Layout.{Laid}
 use Rattle.planner.specs.declared.task.Want.{Want}
 use Rattle.planner.specs.declared.board.Board.{Board}
@@ -84,6 +84,13 @@ pub record OnRack (j : ℕ) (x : Pair) : Type 0 where
   pub room : 2 * j + 1 < copy_count
   pub primary : x.primary.node < max_nodes
   pub backup : x.backup.node < max_nodes
+
+-- the entries of task j can be laid out behind those before it
+pub record Next (node start : List ℕ) (j : ℕ) (order count : List ℕ) : Type 0 where
+  pub room : 2 * j + 1 < copy_count
+  pub primary : node_at node (2 * j) < max_nodes
+  pub backup : node_at node (2 * j + 1) < max_nodes
+  pub laid : Laid node start (2 * j) order count
 
 -- when the results of both leave, on these nodes, can be noted, and is
 pub record Departing (nodes : List Node) (j : ℕ) (x : Pair) : Type 0 where

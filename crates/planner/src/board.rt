@@ -1,6 +1,8 @@
 // What is booked so far: each copy, when its result leaves its node, and the copies of each node in order of time.
-ghost use Rattle.std.specs.Prelude.{◌≡◌, ◌+◌, ◌*◌};
-ghost use Rattle.planner.specs.Tasks.{Blank, LaidTo, Bookable, Booked, departed};
+ghost use Rattle.std.specs.Prelude.{◌≡◌, ◌+◌, ◌*◌, ◌<◌};
+ghost use Rattle.copies.specs.Table.{copy_count, Whole};
+ghost use Rattle.copies.specs.Layout.{Laid};
+ghost use Rattle.planner.specs.Tasks.{Blank, LaidTo, Bookable, Booked, Departing, departed, Next};
 
 use copies::layout::Layout;
 use copies::sets::ALL;
@@ -41,14 +43,45 @@ impl Board {
         ensures gone { self.new.leave ≡ departed nodes.now j pair self.old.leave }
         ensures laid { LaidTo (2 * (j + 1)) self.new }
     {
-        let p = pair.primary;
-        let q = pair.backup;
-        let k = 2 * j;
-        self.copies.put(k, p, ALL);
-        self.copies.put(k + 1, q, pair.set);
-        self.leave[k] = p.finish + nodes[p.node as usize].send;
-        self.leave[k + 1] = q.finish + nodes[q.node as usize].send;
-        self.layout.lay(&self.copies, k);
-        self.layout.lay(&self.copies, k + 1);
+        book(&mut self.copies, j, pair);
+        send_off(&mut self.leave, nodes, j, pair);
+        lay_both(&mut self.layout, &self.copies, j);
     }
+}
+
+// Stores both copies of task j.
+pub fn book(copies: &mut Copies, j: usize, pair: Pair)
+    requires { Whole copies.old × (2 * j + 1 < copy_count) }
+    ensures { Booked j pair copies.old copies.new }
+{
+    let k = 2 * j;
+    copies.put(k, pair.primary, ALL);
+    copies.put(k + 1, pair.backup, pair.set);
+}
+
+// When the results of both leave their nodes.
+pub fn send_off(
+    leave: &mut [u32; Copies::COUNT],
+    nodes: &[Node; Job::MAX_NODES],
+    j: usize,
+    pair: Pair,
+)
+    requires { Departing nodes.now j pair }
+    ensures { leave.new ≡ departed nodes.now j pair leave.old }
+{
+    let k = 2 * j;
+    let p = pair.primary;
+    let q = pair.backup;
+    leave[k] = p.finish + nodes[p.node as usize].send;
+    leave[k + 1] = q.finish + nodes[q.node as usize].send;
+}
+
+// Both copies of task j, which are stored, in order of time.
+pub fn lay_both(layout: &mut Layout, copies: &Copies, j: usize)
+    requires { Next copies.now.node copies.now.start j layout.old.order layout.old.count }
+    ensures { Laid copies.now.node copies.now.start (2 * (j + 1)) layout.new.order layout.new.count }
+{
+    let k = 2 * j;
+    layout.lay(copies, k);
+    layout.lay(copies, k + 1);
 }
