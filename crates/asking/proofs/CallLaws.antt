@@ -71,3 +71,11 @@ module _ (job : Job) (plan : Plan) (d : Description) (x : Place) (ok : Committin
     commit_refused {y} q =
         let bad : breach (longer_job job d) (rows (longer_job job d) (longer_plan job plan x)) ≡ some y = (answered_refused _ y).0 (sym told ∙ q) in
         rw bad
+
+-- what came with the longer job in a lent one, as values
+module _ {w : Result Plan Refusal} (longer : Job) {t : Result (Job × Plan) Refusal} (is : ◌≡◌ {A = Result (Job × Plan) Refusal} (with_job w longer) t) where
+  pub pair_handed : {long : Plan} → w ≡ Ok long → ◌≡◌ {A = Result (Job × Plan) Refusal} (Ok (longer, long)) t
+  pair_handed q = sym (ap (λ x. with_job x longer) q) ∙ is
+
+  pub refusal_handed : {r : Refusal} → w ≡ Err r → ◌≡◌ {A = Result (Job × Plan) Refusal} (Err r) t
+  refusal_handed q = sym (ap (λ x. with_job x longer) q) ∙ is

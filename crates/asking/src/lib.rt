@@ -43,8 +43,18 @@ pub fn ask(job: &Job, plan: &Plan, d: &Description) -> Result<Place, Refusal>
     Ok(place_of(pair.primary, pair.backup))
 }
 
-// The new task at a proposed place, if it still keeps all rules there: the longer plan, and into `longer` the longer job.
-pub fn commit(
+// The new task at a proposed place, if it still keeps all rules there: the longer job and the longer plan.
+pub fn commit(job: &Job, plan: &Plan, d: &Description, place: Place) -> Result<(Job, Plan), Refusal>
+    requires { Committing job.now plan.now d.now place }
+    ensures { result ≡ committed (commit_of job.now plan.now d.now place) }
+{
+    let mut longer = Job::empty();
+    let places = commit_to(job, plan, d, place, &mut longer)?;
+    Ok((longer, places))
+}
+
+// The same with the longer job in a lent one, which a refusal leaves as it was: as a value its 11 KB are copied at each `?`.
+pub fn commit_to(
     job: &Job,
     plan: &Plan,
     d: &Description,

@@ -12,7 +12,7 @@ ghost use Rattle.seqopchi.specs.Files.{plan_in, judge_files, refusal_of};
 ghost use Rattle.booking.specs.Asks.{ask_files, commit_files, places_after, books, commit_into};
 
 use asking::description_file::{read_booking, read_question};
-use asking::{ask, commit, full};
+use asking::{ask, commit_to, full};
 use judge::judge_plan;
 use reader::job::Job;
 use reader::job_file::fill_job;
@@ -43,9 +43,18 @@ pub fn ask_files(job: &[u8], plan: &[u8], task: &[u8]) -> Result<Place, Refusal>
     ask(&held, &plan, &description)
 }
 
-// The longer plan, with the task at the place of a booking, and into `longer` the longer job.
+// The longer job and the longer plan, with the task at the place of a booking.
+pub fn commit_files(job: &[u8], plan: &[u8], booking: &[u8]) -> Result<(Job, Plan), Refusal>
+    ensures { result ≡ committed (commit_files job.now plan.now booking.now) }
+{
+    let mut longer = Job::empty();
+    let places = commit_files_to(job, plan, booking, &mut longer)?;
+    Ok((longer, places))
+}
+
+// The same with the longer job in a lent one, which a refusal leaves as it was.
 #[inline(never)]
-pub fn commit_files(
+pub fn commit_files_to(
     job: &[u8],
     plan: &[u8],
     booking: &[u8],
@@ -58,7 +67,7 @@ pub fn commit_files(
     let plan = passed_files(job, plan, &mut held)?;
     let (description, place) = read_booking(booking, &held)?;
     full(&held, &description)?;
-    commit(&held, &plan, &description, place, longer)
+    commit_to(&held, &plan, &description, place, longer)
 }
 
 // A job and a plan of it as files, if both have room. By itself, so that its scratch isn't on the stack while a commit is judged.
@@ -95,7 +104,7 @@ pub fn commit_into(
         ≡ record { answer = result; job = out_job.new; plan = out_plan.new } }
 {
     let mut longer = Job::empty();
-    let places = commit_files(job, plan, booking, &mut longer)?;
+    let places = commit_files_to(job, plan, booking, &mut longer)?;
     write_both(&longer, &places, out_job, out_plan)
 }
 
