@@ -1,19 +1,22 @@
 -- Laws of a commit into two buffers: refused, or no room for the longer job, or for the longer plan, or both are written.
-use Prim.Native.Nat.{ℕ}
+use Prim.Native.Nat.{ℕ, ◌<◌}
 use native.Mathlib.Omega.{arith}
 use mathlib.Core.Path.{◌≡◌, refl, sym, ap, ap₂, ◌∙◌, subst}
 use mathlib.Core.List.{List, ◌++◌}
 use mathlib.Core.Option.{Option, none, some}
 use lib.ListN.{length, take, drop}
+use borrow.Author.Tests.{lt-leb}
 use Rattle.reader.specs.declared.refusal.Refusal.{Refusal}
+use Rattle.reader.specs.declared.refusal.Refusal.TheVariants.{ShortBuffer}
 use Rattle.std.specs.Prelude.{Result, Ok, Err, IsErrAnd}
 use Rattle.reader.specs.declared.job.Job.{Job}
 use Rattle.reader.specs.declared.plan.Plan.{Plan}
-use Rattle.reader.specs.Refusals.{Answer, result_number}
+use Rattle.reader.specs.Refusals.{Answer, answered, result_number}
 use Rattle.reader.specs.Sound.{Sound, PlanSound}
 use Rattle.reader.specs.PlanFile.{plan_length}
 use Rattle.reader.proofs.TestLaws.{never}
-use Rattle.reader.proofs.FirstLaws.{or_else_i}
+use Rattle.reader.proofs.FirstLaws.{some_unless, or_else_i}
+use Rattle.reader.proofs.NumberLaws.{is_none}
 use Rattle.reader.proofs.Chain.{pass, stop}
 use Rattle.writer.specs.Write.{job_numbers, job_bytes, plan_numbers, plan_bytes, room_fault}
 use Rattle.writer.specs.Puts.{Puts}
@@ -87,6 +90,16 @@ module _ (job : Job) (plan : Plan) (held : Sound job × PlanSound job plan) (out
           ∙ ap₂ (λ f g. record { answer = Ok tt; job = f; plan = g })
           (ap₂ (λ f k. f ++ drop k out_job) (sym (front z (job_numbers job) s n put)) (sym job_size))
           (put_front puts)
+
+-- the plan's buffer is found too short by a test of its length
+pub short_plan : (job : Job) (plan : Plan) (out_job out_plan z s : List ℕ) (n : ℕ) (a : Answer) → Sound job × PlanSound job plan
+    → Puts z 0 (job_numbers job) s n → a ≡ answered (room_fault out_job n) → a ≡ Ok tt → length out_plan < plan_length plan.task_count
+    → books (placed (record { job = job; plan = plan })) out_job out_plan
+    ≡ record { answer = Err (ShortBuffer (plan_length plan.task_count)); job = out_job; plan = out_plan }
+unfolding room_fault
+short_plan job plan out_job out_plan z s n a held put room is h =
+    no_plan_room job plan held out_job out_plan put (is_none _ _ _ room is) (some_unless _ _ _ (lt-leb (plan_length plan.task_count) (length out_plan) h) refl)
+    (Err (ShortBuffer (plan_length plan.task_count))) refl
 
 -- the commit before it: refused, or a sound job and a plan of it
 module _ (file plan booking : List ℕ) {b : Result Plan Refusal} (job : Job) (is : with_job b job ≡ committed (commit_files file plan booking)) where
