@@ -1,5 +1,6 @@
 pub mod NewLinkLaws
 pub mod NewFileLaws
+pub mod ShapeLaws
 pub mod NewAccepted
 pub mod DescriptionLaws
 pub mod DescriptionFits

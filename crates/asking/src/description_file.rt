@@ -1,10 +1,11 @@
 // Reading the description of an extra task, after its job.
 ghost use Rattle.std.specs.Prelude.{◌≡◌, ◌+◌, ◌*◌, ◌≤◌, replicate, IfOk};
+ghost use Rattle.reader.specs.declared.job.Job.{Job};
 ghost use Rattle.reader.specs.Limits.{min_tasks, max_tasks, max_links};
 ghost use Rattle.reader.specs.Number.{number_at};
-ghost use Rattle.reader.specs.Entries.{nodes, tasks, no_link};
+ghost use Rattle.reader.specs.Entries.{no_link};
 ghost use Rattle.reader.specs.Reads.{Reads};
-ghost use Rattle.asking.specs.Sizes.{Sizes};
+ghost use Rattle.asking.specs.Sizes.{Sizes, shape_of, shaped};
 ghost use Rattle.asking.specs.DescriptionFile.{new_link_fault, new_link_at, new_links_fault, new_links_at};
 ghost use Rattle.asking.specs.DescriptionFile.{description_fault, description_at, description_length, question_fault, booking_fault, booked_place};
 
@@ -15,6 +16,26 @@ use reader::plan::Place;
 use reader::plan_file::read_place;
 use reader::refusal::Refusal;
 use rules::Description;
+
+// What a description is read by: the version of its job, and how many nodes and tasks that has.
+#[derive(Clone, Copy)]
+pub struct Shape {
+    pub version: usize,
+    pub nodes: usize,
+    pub tasks: usize,
+}
+
+impl Shape {
+    pub fn of(job: &Job) -> Shape
+        ensures { result ≡ shape_of job.now }
+    {
+        Shape {
+            version: job.version as usize,
+            nodes: job.node_count as usize,
+            tasks: job.task_count as usize,
+        }
+    }
+}
 
 // One link to the new task at an offset, from a task below `tasks`, behind the link `before`.
 fn read_new_link(file: &[u8], at: usize, tasks: usize, before: Link) -> Result<Link, Refusal>
@@ -54,32 +75,31 @@ fn read_new_links(
 }
 
 // The task's entry, then its links; and the offset behind them.
-fn read_description(file: &[u8], job: &Job) -> Result<(Description, usize), Refusal>
-    requires { Sizes (nodes job.now) (tasks job.now) }
+fn read_description(file: &[u8], shape: Shape) -> Result<(Description, usize), Refusal>
+    requires { Sizes shape.nodes shape.tasks }
     ensures end_bound { IfOk result (λ read. read.1 ≤ 8192) }
-    ensures reads { Reads (description_fault file.now job.now) result
-        (λ read. (read.0 ≡ description_at file.now job.now)
-        × (read.1 ≡ description_length file.now job.now)) }
+    ensures reads { (job : Job) → Reads (description_fault file.now (shaped job shape)) result
+        (λ read. (read.0 ≡ description_at file.now (shaped job shape))
+        × (read.1 ≡ description_length file.now (shaped job shape))) }
 {
-    let tasks = job.task_count as usize;
-    let (task, at) = read_task(file, 0, job.version as usize, 0, job.node_count as usize)?;
+    let (task, at) = read_task(file, 0, shape.version, 0, shape.nodes)?;
     let mut description = Description {
         task,
         link_count: 0,
         links: [Link::BLANK; Job::MAX_LINKS],
     };
-    let (links, end) = read_new_links(file, at, tasks, &mut description.links)?;
+    let (links, end) = read_new_links(file, at, shape.tasks, &mut description.links)?;
     description.link_count = links as u32;
     Ok((description, end))
 }
 
 // What is asked: a description, and nothing behind it.
-pub fn read_question(file: &[u8], job: &Job) -> Result<Description, Refusal>
-    requires { Sizes (nodes job.now) (tasks job.now) }
-    ensures { Reads (question_fault file.now job.now) result
-        (λ description. description ≡ description_at file.now job.now) }
+pub fn read_question(file: &[u8], shape: Shape) -> Result<Description, Refusal>
+    requires { Sizes shape.nodes shape.tasks }
+    ensures { (job : Job) → Reads (question_fault file.now (shaped job shape)) result
+        (λ description. description ≡ description_at file.now (shaped job shape)) }
 {
-    let (description, end) = read_description(file, job)?;
+    let (description, end) = read_description(file, shape)?;
     if end < file.len() {
         return Err(Refusal::Tail(end));
     }
@@ -87,15 +107,14 @@ pub fn read_question(file: &[u8], job: &Job) -> Result<Description, Refusal>
 }
 
 // What is committed: a description, then the four numbers of its place.
-pub fn read_booking(file: &[u8], job: &Job) -> Result<(Description, Place), Refusal>
-    requires { Sizes (nodes job.now) (tasks job.now) }
-    ensures { Reads (booking_fault file.now job.now) result
-        (λ booking. (booking.0 ≡ description_at file.now job.now)
-        × (booking.1 ≡ booked_place file.now job.now)) }
+pub fn read_booking(file: &[u8], shape: Shape) -> Result<(Description, Place), Refusal>
+    requires { Sizes shape.nodes shape.tasks }
+    ensures { (job : Job) → Reads (booking_fault file.now (shaped job shape)) result
+        (λ booking. (booking.0 ≡ description_at file.now (shaped job shape))
+        × (booking.1 ≡ booked_place file.now (shaped job shape))) }
 {
-    let (description, at) = read_description(file, job)?;
-    let nodes = job.node_count as usize;
-    let place = read_place(file, at, nodes, description.task.run)?;
+    let (description, at) = read_description(file, shape)?;
+    let place = read_place(file, at, shape.nodes, description.task.run)?;
     let end = at + 16;
     if end < file.len() {
         return Err(Refusal::Tail(end));

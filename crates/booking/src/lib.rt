@@ -11,7 +11,7 @@ ghost use Rattle.asking.specs.Calls.{asked, committed, with_job};
 ghost use Rattle.seqopchi.specs.Files.{plan_in, judge_files, refusal_of};
 ghost use Rattle.booking.specs.Asks.{ask_files, commit_files, places_after, books, commit_into};
 
-use asking::description_file::{read_booking, read_question};
+use asking::description_file::{Shape, read_booking, read_question};
 use asking::{ask, commit_to, full};
 use judge::judge_plan;
 use reader::job::Job;
@@ -38,7 +38,8 @@ pub fn ask_files(job: &[u8], plan: &[u8], task: &[u8]) -> Result<Place, Refusal>
 {
     let mut held = Job::empty();
     let plan = passed_files(job, plan, &mut held)?;
-    let description = read_question(task, &held)?;
+    let shape = Shape::of(&held);
+    let description = read_question(task, shape)?;
     full(&held, &description)?;
     ask(&held, &plan, &description)
 }
@@ -65,7 +66,8 @@ pub fn commit_files_to(
 {
     let mut held = Job::empty();
     let plan = passed_files(job, plan, &mut held)?;
-    let (description, place) = read_booking(booking, &held)?;
+    let shape = Shape::of(&held);
+    let (description, place) = read_booking(booking, shape)?;
     full(&held, &description)?;
     commit_to(&held, &plan, &description, place, longer)
 }
