@@ -5,6 +5,7 @@ use mathlib.Core.Bool.{Bool, true, false}
 use mathlib.Core.List.{List}
 use mathlib.Core.Option.{Option, none, some}
 use native.Mathlib.Numerals.{add-one}
+use Rattle.std.specs.Prelude.{Result}
 use Rattle.reader.specs.declared.job.Link.{Link}
 use Rattle.reader.specs.declared.refusal.Refusal.{Refusal}
 use Rattle.reader.specs.declared.refusal.Refusal.TheVariants.{LinkOrder}
@@ -12,6 +13,7 @@ use Rattle.reader.specs.First.{unless}
 use Rattle.reader.specs.Limits.{max_time}
 use Rattle.reader.specs.Number.{number_at, value_fault}
 use Rattle.reader.specs.Sound.{below}
+use Rattle.reader.specs.Reads.{Reads}
 use Rattle.reader.specs.JobFile.{link_at, link_fault, link_before}
 use Rattle.reader.proofs.Chain.{pass, stop}
 
@@ -57,6 +59,11 @@ pub before_more : (s : List ℕ) (at k : ℕ) (l : Link) → l ≡ link_at s (at
 unfolding link_before
 before_more s at k l e = rw add-one e
 
--- the same fault, behind an equal link
-pub behind_same : (s : List ℕ) (at n : ℕ) {a b : Link} {o : Option Refusal} → a ≡ b → link_fault s at n a ≡ o → link_fault s at n b ≡ o
-behind_same s at n {a} {b} {o} e = subst (λ x. link_fault s at n x ≡ o) e
+-- the same link, behind an equal one
+pub behind_same : (s : List ℕ) (at n : ℕ) {a b : Link} {w : Result Link Refusal} {good : Link → Type 0} → a ≡ b
+    → Reads (link_fault s at n a) w good → Reads (link_fault s at n b) w good
+behind_same s at n {w} {good} e = subst (λ x. Reads (link_fault s at n x) w good) e
+
+-- the same fault
+pub fault_behind_same : (s : List ℕ) (at n : ℕ) {a b : Link} {o : Option Refusal} → a ≡ b → link_fault s at n a ≡ o → link_fault s at n b ≡ o
+fault_behind_same s at n {a} {b} {o} e = subst (λ x. link_fault s at n x ≡ o) e

@@ -26,9 +26,9 @@ pub returns-in_err-before-clause-reads : goal.returns-in_err-before-clause-reads
 unfolding links_fault
 returns-in_err-before-clause-reads c =
     let l = c.loop-k.invariant in
-    let bad = reads_some c.read_link.ensures c.in_err-before.was in
+    let link = behind_same _ _ _ l.1 c.read_link.ensures in
     stopped _ c.from_residual-in_err-before.ensures.1
-    (read_stop _ _ _ _ _ _ _ _ l.2 c.loop-k-test.true (behind_same _ _ _ l.1 bad))
+    (read_stop _ _ _ _ _ _ _ _ l.2 c.loop-k-test.true (reads_some link c.in_err-before.was))
 
 pub bounds-list-k : goal.bounds-list-k
 bounds-list-k c = omega (arith, c.loop-k.invariant.0)
@@ -36,9 +36,10 @@ bounds-list-k c = omega (arith, c.loop-k.invariant.0)
 pub loop-k-preserved : goal.loop-k-preserved
 loop-k-preserved c =
     let l = c.loop-k.invariant in
-    let fine = reads_none c.read_link.ensures c.in_ok-before.was in
-    let value = reads_value c.read_link.ensures c.in_ok-before.was in
-    (l.0, before_more _ _ _ _ value, read_more _ _ _ _ _ _ _ _ l.2 _ c.loop-k-test.true (behind_same _ _ _ l.1 fine) value)
+    let link = behind_same _ _ _ l.1 c.read_link.ensures in
+    let q = c.in_ok-before.was in
+    let value = reads_value link q in
+    (l.0, before_more _ _ _ _ value, read_more _ _ _ _ _ _ _ _ l.2 _ c.loop-k-test.true (reads_none link q) value)
 
 pub returns-clause-count_le_max_links : goal.returns-clause-count_le_max_links
 returns-clause-count_le_max_links c = c.loop-k.invariant.0
