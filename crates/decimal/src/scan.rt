@@ -12,6 +12,7 @@ pub struct Found {
 }
 
 // A number with one digit more; 0 where it would not fit, as the definition has it: no refusal has that number either.
+#[tactic(auto, using(crate::proofs::ScanLaws::grown_fits, crate::proofs::ScanLaws::grown_not, crate::proofs::ScanLaws::digit_most))]
 fn grown(v: usize, b: u8) -> usize
     requires { is_digit b ≡ true }
     ensures { result ≡ grown v b }
