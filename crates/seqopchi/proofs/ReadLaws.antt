@@ -6,7 +6,7 @@ use mathlib.Core.Bool.{Bool, true, false}
 use mathlib.Core.Option.{Option, none, some}
 use lib.Dec.{eqb}
 use lib.ListN.{length, drop, take, get_or}
-use borrow.Author.Tests.{leb-true, eq-eqb, eqb-true}
+use borrow.Author.Tests.{leb-true, lt-leb, eq-eqb, eqb-true}
 use native.Mathlib.Omega.{arith}
 use Rattle.std.specs.Bool.{MatchBool}
 use Rattle.std.specs.List.{HoldsAt, AllWithin}
@@ -16,7 +16,7 @@ use Rattle.reader.specs.declared.job.Job.{Job}
 use Rattle.reader.specs.declared.job.Node.{Node}
 use Rattle.reader.specs.declared.plan.Plan.{Plan}
 use Rattle.reader.specs.declared.refusal.Refusal.{Refusal}
-use Rattle.reader.specs.declared.refusal.Refusal.TheVariants.{NoSuchNode}
+use Rattle.reader.specs.declared.refusal.Refusal.TheVariants.{ShortBuffer, NoSuchNode}
 use Rattle.reader.specs.First.{◌or_else◌, unless, any}
 use Rattle.reader.specs.Entries.{nodes, tasks, no_node}
 use Rattle.reader.specs.Sound.{Sound, PlanSound}
@@ -62,6 +62,11 @@ hands s out w h q = refuses s out q (handed _ w h refl)
 pub roomy : (out : List ℕ) (n : ℕ) → room_fault out n ≡ none → n ≤ length out
 unfolding room_fault
 roomy out n e = leb-true n (length out) (unless_none _ _ e)
+
+-- no room for n bytes
+pub short : (out : List ℕ) (n : ℕ) → length out < n → room_fault out n ≡ some (ShortBuffer n)
+unfolding room_fault unless
+short out n h = rw (lt-leb n (length out) h)
 
 -- `has_node`: what going through the nodes tells
 pub any_node : (b : Bool) (list : List Node) (q : ℕ)
@@ -173,8 +178,13 @@ module _ (file plan : List ℕ) (job : Job) (places : Plan) (d : FilesDone file 
       to_list : replay_fault file plan loss list out ≡ (list_fault list job places or_else room_fault out (12 * tasks job))
       to_list = to_loss ∙ pass _ there
 
-      pub bad_list : {r : Refusal} → list_fault list job places ≡ some r → replay_fault file plan loss list out ≡ some r
-      bad_list q = to_list ∙ stop _ q
+      pub bad_list_fault : {r : Refusal} → list_fault list job places ≡ some r → replay_fault file plan loss list out ≡ some r
+      bad_list_fault q = to_list ∙ stop _ q
+
+      pub bad_list : {r : Refusal} → list_fault list job places ≡ some r
+          → replay_files file plan loss list out ≡ record { answer = Err r; buffer = out }
+      unfolding replay_files
+      bad_list q = refuses _ out (bad_list_fault q) refl
 
       -- a list without fault, and the times in it, if it is given
       module _ (fine : list_fault list job places ≡ none) (times : Maybe Times) (are : times ≡ times_in list job) where
@@ -183,6 +193,11 @@ module _ (file plan : List ℕ) (job : Job) (places : Plan) (d : FilesDone file 
 
         pub bad_room : {r : Refusal} → room_fault out (12 * tasks job) ≡ some r → replay_fault file plan loss list out ≡ some r
         bad_room q = to_room ∙ q
+
+        pub no_room : length out < 12 * tasks job
+            → replay_files file plan loss list out ≡ record { answer = Err (ShortBuffer (12 * tasks job)); buffer = out }
+        unfolding replay_files
+        no_room h = refuses _ out (bad_room (short out _ h)) refl
 
         times_are : chosen times job places ≡ list_times list job places
         times_are = ap (λ t. chosen t job places) are ∙ times_chosen list job places

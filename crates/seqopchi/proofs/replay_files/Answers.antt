@@ -5,7 +5,7 @@ use Rattle.reader.proofs.Chain.{stop}
 use Rattle.reader.proofs.NumberLaws.{is_none, is_value, is_fault}
 use Rattle.seqopchi.specs.Files.{replay_fault, replay_files}
 use Rattle.seqopchi.proofs.ReadLaws.{hands, roomy, job_sound, job_stops, plan_stops, both_done}
-use Rattle.seqopchi.proofs.ReadLaws.{both_sound, bad_group, bad_list, bad_room, times_within, replayed}
+use Rattle.seqopchi.proofs.ReadLaws.{both_sound, bad_group, bad_list_fault, bad_room, times_within, replayed}
 use Rattle.seqopchi.proofs.replay_files.Goals as goal
 
 pub returns-in_err-fill_job : goal.returns-in_err-fill_job
@@ -48,7 +48,7 @@ returns-in_err-times c =
     let read = filled c.args.job.now c.fill_job.ensures.answer c.in_ok-fill_job.was c.in_ok-fill_job.ensures.job in
     let there = is_none _ _ _ c.lost_group.ensures c.in_ok-lost_group.was in
     hands _ _ _ c.from_residual-in_err-times.ensures.1
-    (bad_list _ _ _ _ (both_done c.args.job.now refl read _ c.read_plan.ensures c.in_ok-places.was) _ _ _ there
+    (bad_list_fault _ _ _ _ (both_done c.args.job.now refl read _ c.read_plan.ensures c.in_ok-places.was) _ _ _ there
     (is_fault _ _ _ c.read_list.ensures c.in_err-times.was))
 
 pub returns-in_err-room : goal.returns-in_err-room
