@@ -1,5 +1,5 @@
 -- Laws of the calls: each step behind those that passed, and what is written.
-use Prim.Native.Nat.{ℕ, ◌*◌, ◌≤◌}
+use Prim.Native.Nat.{ℕ, ◌*◌, ◌≤◌, ◌<◌}
 use mathlib.Core.Path.{◌≡◌, refl, sym, ap, ◌∙◌, subst}
 use mathlib.Core.List.{List, [], ◌∷◌, ◌++◌}
 use mathlib.Core.Option.{none, some}
@@ -30,6 +30,7 @@ use Rattle.writer.specs.Puts.{Puts}
 use Rattle.writer.proofs.SameNumbers.{flat_same}
 use Rattle.writer.proofs.SoundReads.{sound_job_length}
 use Rattle.writer.proofs.SoundWrites.{sound_job_written}
+use Rattle.seqopchi.proofs.ReadLaws.{short}
 use Rattle.seqopchi.proofs.PlanLaws.{put_front}
 use Rattle.history.specs.Log.{log_fault}
 use Rattle.history.specs.Times.{log_time, table_numbers, table_length, renewed}
@@ -70,26 +71,33 @@ module _ (job log out : List ℕ) (need : ℕ) (s : List ℕ) where
 
     module _ (value : Job) (ok : read ≡ Ok value) where
       -- the room that the code asks for is that which the call needs
-      module _ (n : ℕ) (asks : n ≡ need) (room : Answer) (told : room ≡ answered (room_fault out n)) where
-        pub no_room : {r : Refusal} (a : Answer) → room ≡ Err r → IsErrAnd a (λ e. e ≡ r) → call ≡ record { answer = a; buffer = out }
+      module _ (n : ℕ) (asks : n ≡ need) where
+        pub no_room : length out < n → call ≡ record { answer = Err (ShortBuffer n); buffer = out }
         unfolding call_fault
-        no_room {r} a q handed =
-            let short : room_fault out need ≡ some r = rw asks at (is_fault _ _ _ told q) in
-            refuses a handed (pass _ (job_fine job is ok) ∙ stop _ short)
+        no_room h =
+            let room : room_fault out need ≡ some (ShortBuffer n) = subst (λ m. room_fault out m ≡ some (ShortBuffer n)) asks (short out n h) in
+            refuses _ refl (pass _ (job_fine job is ok) ∙ stop _ room)
 
-        module _ {u : ⊤} (fits : room ≡ Ok u) (new : Result Job Refusal)
-            (reads : Reads (log_fault log value) new (λ x. x ≡ renewed value (log_time value log))) where
-          to_log : call_fault job log out need ≡ log_fault log value
+        module _ (room : Answer) (told : room ≡ answered (room_fault out n)) where
+          pub room_refused : {r : Refusal} (a : Answer) → room ≡ Err r → IsErrAnd a (λ e. e ≡ r) → call ≡ record { answer = a; buffer = out }
           unfolding call_fault
-          to_log =
-              let enough : room_fault out need ≡ none = rw asks at (is_none _ _ _ told fits) in
-              pass _ (job_fine job is ok) ∙ pass _ enough ∙ ap (log_fault log) (sym (job_is job is ok))
+          room_refused {r} a q handed =
+              let less : room_fault out need ≡ some r = rw asks at (is_fault _ _ _ told q) in
+              refuses a handed (pass _ (job_fine job is ok) ∙ stop _ less)
 
-          pub log_refused : {r : Refusal} (a : Answer) → new ≡ Err r → IsErrAnd a (λ e. e ≡ r) → call ≡ record { answer = a; buffer = out }
-          log_refused a q handed = refuses a handed (to_log ∙ reads_some reads q)
+          module _ {u : ⊤} (fits : room ≡ Ok u) (new : Result Job Refusal)
+              (reads : Reads (log_fault log value) new (λ x. x ≡ renewed value (log_time value log))) where
+            to_log : call_fault job log out need ≡ log_fault log value
+            unfolding call_fault
+            to_log =
+                let enough : room_fault out need ≡ none = rw asks at (is_none _ _ _ told fits) in
+                pass _ (job_fine job is ok) ∙ pass _ enough ∙ ap (log_fault log) (sym (job_is job is ok))
 
-          pub no_fault : {x : Job} → new ≡ Ok x → call_fault job log out need ≡ none
-          no_fault q = to_log ∙ reads_none reads q
+            pub log_refused : {r : Refusal} (a : Answer) → new ≡ Err r → IsErrAnd a (λ e. e ≡ r) → call ≡ record { answer = a; buffer = out }
+            log_refused a q handed = refuses a handed (to_log ∙ reads_some reads q)
+
+            pub no_fault : {x : Job} → new ≡ Ok x → call_fault job log out need ≡ none
+            no_fault q = to_log ∙ reads_none reads q
 
 -- both calls are such
 module _ (job log out : List ℕ) where

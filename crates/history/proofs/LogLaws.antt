@@ -1,6 +1,6 @@
 -- Laws of reading a log: one record's three numbers, each where the one before it passed, and record after record into the window.
 use Prim.Native.Nat.{ℕ, ◌+◌, ◌-◌, ◌*◌, ◌<◌}
-use mathlib.Core.Path.{◌≡◌, sym, ap, ◌∙◌, subst}
+use mathlib.Core.Path.{◌≡◌, refl, sym, ap, ◌∙◌, subst}
 use mathlib.Core.List.{List}
 use mathlib.Core.Option.{none}
 use lib.ListN.{get_or, length}
@@ -102,10 +102,10 @@ module _ (log : List ℕ) (times : RunTimes) (k : ℕ) (w : Window) (inv : LogTo
         stopped v told (first_found (record_fault log job) (records log) k r below past.clear (reads_some (one job h) q))
 
     module _ {y : Timing} (q : x ≡ Ok y) where
-      -- is none that is cut short: what is left behind the whole records is refused
-      pub log_cut : (job : Job) → TimesOf job times → length log < 12 * k + 12 → ⊥
+      -- is none that is cut short
+      pub whole_read : (job : Job) → TimesOf job times → length log < 12 * k + 12 → ⊥
       unfolding timing_fault
-      log_cut job h cut =
+      whole_read job h cut =
           let ticks = field_good log (12 * k + 8) _ _ _ (or_else_r _ _ (or_else_r _ _ (reads_none (one job h) q))) in
           omega (arith, ticks.room, cut)
 
@@ -121,6 +121,16 @@ module _ (log : List ℕ) (times : RunTimes) (k : ℕ) (w : Window) (inv : LogTo
               holds = push.holds (record_at log) k (sym (reads_value r q)) past.holds;
             };
       }
+
+    -- is refused where it is cut short: what is left behind the whole records
+    pub log_cut : (v : Result Window Refusal) → 12 * k < length log → length log < 12 * k + 12
+        → ((r : Refusal) → x ≡ Err r → IsErrAnd v (λ e. e ≡ r)) → AllRead log times v
+    unfolding records
+    log_cut v below cut told = go x refl
+      where
+        go : (z : Result Timing Refusal) → x ≡ z → AllRead log times v
+        go (Err r) q = log_stop v (omega (arith, below)) q (told r q)
+        go (Ok y) q = λ job h. absurd (whole_read q job h cut)
 
   pub log_done : k ≡ records log → AllRead log times (Ok w)
   unfolding log_fault

@@ -1,7 +1,7 @@
 -- `history::renew_job` meets its contract.
 use mathlib.Core.Path.{refl, ◌∙◌}
 use Rattle.reader.proofs.JobLaws.{filled, unfilled}
-use Rattle.history.proofs.CallLaws.{job_refused, job_sound, no_room, log_refused, renew_is, renew_written}
+use Rattle.history.proofs.CallLaws.{job_refused, job_sound, room_refused, log_refused, renew_is, renew_written}
 use Rattle.history.proofs.renew_job.Goals as goal
 
 pub returns-in_err-fill_job : goal.returns-in_err-fill_job
@@ -11,7 +11,7 @@ returns-in_err-fill_job c =
 pub returns-in_err-room : goal.returns-in_err-room
 returns-in_err-room c =
     let read = filled c.args.file.now c.fill_job.ensures.answer c.in_ok-fill_job.was c.in_ok-fill_job.ensures.job in
-    renew_is _ _ _ ∙ no_room _ _ _ _ _ _ refl _ read _ refl
+    renew_is _ _ _ ∙ room_refused _ _ _ _ _ _ refl _ read _ refl
     _ c.room.ensures.answer _ c.in_err-room.was c.from_residual-in_err-room.ensures.1
 
 pub renew-requires : goal.renew-requires

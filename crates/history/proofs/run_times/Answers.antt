@@ -3,7 +3,7 @@ use mathlib.Core.Path.{refl, ◌∙◌}
 use native.Mathlib.Omega.{arith}
 use Rattle.reader.proofs.Chain.{reads_value}
 use Rattle.reader.proofs.JobLaws.{filled, unfilled}
-use Rattle.history.proofs.CallLaws.{job_refused, job_sound, no_room, log_refused, table_is, table_asks, table_small, table_needs, table_written}
+use Rattle.history.proofs.CallLaws.{job_refused, job_sound, room_refused, log_refused, table_is, table_asks, table_small, table_needs, table_written}
 use Rattle.history.proofs.run_times.Goals as goal
 
 pub returns-in_err-fill_job : goal.returns-in_err-fill_job
@@ -18,7 +18,7 @@ overflow_mul-need-2 c =
 pub returns-in_err-room : goal.returns-in_err-room
 returns-in_err-room c =
     let read = filled c.args.file.now c.fill_job.ensures.answer c.in_ok-fill_job.was c.in_ok-fill_job.ensures.job in
-    table_is _ _ _ ∙ no_room _ _ _ _ _ _ refl _ read _ (table_asks _ refl read)
+    table_is _ _ _ ∙ room_refused _ _ _ _ _ _ refl _ read _ (table_asks _ refl read)
     _ c.room.ensures.answer _ c.in_err-room.was c.from_residual-in_err-room.ensures.1
 
 pub renew-requires : goal.renew-requires
