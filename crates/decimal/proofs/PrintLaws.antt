@@ -2,13 +2,12 @@
 use Prim.Native.Nat.{ℕ, ◌+◌, ◌/◌, ◌%◌, ◌≤◌, ◌<◌}
 use mathlib.Core.Path.{◌≡◌, refl, sym, ap, ◌∙◌, subst}
 use mathlib.Core.List.{List, [], ◌∷◌, ◌++◌}
-use lib.ListN.{length, set, length-append, length-set}
-use lib.Seq.{drop-drop, set_split}
-use borrow.Rule.Slice.PartMut.{put_mid}
+use lib.ListN.{get_or, length, set, take, length-append, length-set}
+use lib.Seq.{set_split, take-suc, take-length}
 use native.Mathlib.Numerals.{add-one}
 use native.Mathlib.Omega.{arith}
 use Rattle.writer.specs.Write.{splice, flat}
-use Rattle.writer.proofs.PutLaws.{splice_none, splice_behind, length_splice}
+use Rattle.writer.proofs.PutLaws.{splice_none, splice_behind}
 use Rattle.decimal.specs.Decimal.{digit_zero, decimal}
 use Rattle.decimal.specs.declared.print.Page.{Page}
 use Rattle.decimal.specs.Prints.{Prints, Grows}
@@ -32,16 +31,16 @@ prints_then {d} {a} {e} {b} {g} {at} {k} {m} p q = record {
 pub prints_same : {d a b e : List ℕ} {at k : ℕ} → a ≡ b → Prints d at a e k → Prints d at b e k
 prints_same {d} {a} {b} {e} {at} {k} h = subst (λ l. Prints d at l e k) h
 
--- a text copied into a part of the buffer as long as it
-copied_splice : (d s t : List ℕ) (at k : ℕ) → t ≡ s → k ≡ length s → put_mid at k d t ≡ splice d at s
-unfolding splice
-copied_splice d s t at k e size = rw (e, size, drop-drop)
+pub prints_at : {d a e : List ℕ} {at k m : ℕ} → k ≡ m → Prints d at a e k → Prints d at a e m
+prints_at {d} {a} {e} {at} h = subst (Prints d at a e) h
 
-pub text_copied : (d s t : List ℕ) (at k : ℕ) → t ≡ s → k ≡ length s → at + length s ≤ length d
-    → Prints d at s (put_mid at k d t) (at + length s)
-text_copied d s t at k e size room =
-    let whole = copied_splice d s t at k e size in
-    record { buffer = whole; size = ap length whole ∙ length_splice d s at room; behind = refl }
+-- a loop that prints a text: one turn, and the end
+module _ (d s : List ℕ) (at i : ℕ) {e : List ℕ} (h : Prints d at (take i s) e (at + i)) where
+  pub text_more : i < length s → at + i < length e → Prints d at (take (i + 1) s) (set e (at + i) (get_or s i 0)) (at + (i + 1))
+  text_more p q = rw (add-one, take-suc s i 0) (prints_at (omega arith) (prints_then h (prints_byte e (at + i) (get_or s i 0) q)))
+
+  pub text_whole : i ≡ length s → Prints d at s e (at + i)
+  text_whole p = prints_same (ap (λ n. take n s) p ∙ take-length s) h
 
 -- a number: one digit, or its last digit behind the others
 pub digit_printed : (d : List ℕ) (at v b : ℕ) → v < 10 → b ≡ digit_zero + v → at + length (decimal v) ≤ length d
