@@ -4,15 +4,17 @@
 ghost use Rattle.std.specs.Prelude.{◌+◌, ◌*◌, ◌≤◌, length, get_or};
 ghost use Rattle.reader.specs.Limits.{max_tasks};
 ghost use Rattle.reader.specs.Entries.{no_place};
+ghost use Rattle.reader.specs.Sound.{Sound};
 ghost use Rattle.writer.specs.Write.{flat};
+ghost use Rattle.rules.specs.Planner.{planner};
 ghost use Rattle.decimal.specs.Prints.{Prints, Grows};
-ghost use Rattle.text.specs.Text.{row, plan_text, refusal_text, listing, max_row, max_text};
+ghost use Rattle.text.specs.Text.{row, plan_text, refusal_text, attempt_text, listing, max_row, max_text};
 
 use crate::print::put_field;
 use decimal::print::Page;
 use planner::plan_job;
 use reader::job::Job;
-use reader::job_file::read_job;
+use reader::job_file::fill_job;
 use reader::plan::{Place, Plan};
 use reader::refusal::{Refusal, Told};
 
@@ -67,7 +69,19 @@ fn put_refusal(page: &mut Page<'_>, refusal: Refusal)
     put_field(page, told.second, b'\n');
 }
 
-// Lists the plan of a job file at the front of a buffer, and gives the text's length.
+// The plan of a job, or why there is none.
+fn put_planned(page: &mut Page<'_>, job: &Job)
+    requires { Sound job.now × (page.old.end + max_text ≤ length page.old.buffer.now) }
+    ensures { (page.new.end ≤ page.old.end + max_text) × Grows page.old page.new (attempt_text (planner job.now)) }
+{
+    match plan_job(*job) {
+        Ok(plan) => put_plan(page, plan),
+        Err(refusal) => put_refusal(page, refusal),
+    }
+}
+
+// Lists the plan of a job file at the front of a buffer, and gives the text's length. The job is filled where it lies: in a Result it would be
+// cleared and copied once more.
 pub fn list_job(job: &[u8], out: &mut [u8; MAX_TEXT]) -> usize
     ensures { (result ≤ max_text) × Prints out.old 0 (listing job.now) out.new result }
 {
@@ -75,8 +89,9 @@ pub fn list_job(job: &[u8], out: &mut [u8; MAX_TEXT]) -> usize
         buffer: out,
         end: 0,
     };
-    match read_job(job).and_then(plan_job) {
-        Ok(plan) => put_plan(&mut page, plan),
+    let mut value = Job::empty();
+    match fill_job(job, &mut value) {
+        Ok(()) => put_planned(&mut page, &value),
         Err(refusal) => put_refusal(&mut page, refusal),
     }
     page.end
