@@ -1,9 +1,10 @@
 -- Laws of reading a log: one record's three numbers, each where the one before it passed, and record after record into the window.
-use Prim.Native.Nat.{ℕ, ◌+◌, ◌-◌, ◌*◌, ◌<◌}
+use Prim.Native.Nat.{ℕ, ◌+◌, ◌-◌, ◌*◌, ◌≤◌, ◌<◌}
 use mathlib.Core.Path.{◌≡◌, refl, sym, ap, ◌∙◌, subst}
 use mathlib.Core.List.{List}
 use mathlib.Core.Option.{none}
 use lib.ListN.{get_or, length}
+use native.Mathlib.Decide.{dec_lt}
 use native.Mathlib.Omega.{arith}
 use Rattle.reader.specs.declared.job.Job.{Job}
 use Rattle.reader.specs.declared.refusal.Refusal.{Refusal}
@@ -139,3 +140,39 @@ module _ (log : List ℕ) (times : RunTimes) (k : ℕ) (w : Window) (inv : LogTo
       finished
       (ap (λ m. first m (record_fault log job)) (sym e) ∙ past.clear)
       (inv.formed, subst (λ m. Holding (record_at log) m w) e past.holds)
+
+-- the same, at the offset of record k
+pub record LogAt (log : List ℕ) (times : RunTimes) (at : ℕ) (w : Window) : Type 0 where
+  pub k : ℕ
+  pub is : at ≡ 12 * k
+  pub within : k ≤ records log
+  pub to : LogTo log times k w
+
+pub log_first : (log : List ℕ) (times : RunTimes) → LogAt log times 0 empty_window
+log_first log times = record { k = 0; is = omega arith; within = omega arith; to = log_start log times }
+
+module _ (log : List ℕ) (times : RunTimes) (at : ℕ) (w : Window) (inv : LogAt log times at w) where
+  module _ (below : at < length log) (x : Result Timing Refusal) (one : OneRead log times at x) where
+    here : OneRead log times (12 * inv.k) x
+    here = subst (λ n. OneRead log times n x) inv.is one
+
+    pub stops : {r : Refusal} (v : Result Window Refusal) → x ≡ Err r → IsErrAnd v (λ e. e ≡ r) → AllRead log times v
+    unfolding records
+    stops {r} v q told = elim (dec_lt (length log) (12 * inv.k + 12)) [
+      | yes cut ↦ log_cut _ _ _ _ inv.to x here v (omega (arith, below, inv.is)) cut
+          (λ e h. let same : r ≡ e = cc in subst (λ m. IsErrAnd v (λ z. z ≡ m)) same told)
+      | no whole ↦ log_stop _ _ _ _ inv.to x here v (omega (arith, below, inv.is)) q told
+    ]
+
+    pub goes_on : {y : Timing} (v : Window) → x ≡ Ok y → Takes w y v → LogAt log times (at + 12) v
+    unfolding records
+    goes_on v q push = record {
+      k = inv.k + 1;
+      is = omega (arith, inv.is);
+      within = omega (arith, below, inv.is);
+      to = log_more _ _ _ _ inv.to x here q v push;
+    }
+
+  pub ends : length log ≤ at → AllRead log times (Ok w)
+  unfolding records
+  ends past = log_done _ _ _ _ inv.to (omega (arith, past, inv.is, inv.within))

@@ -34,6 +34,7 @@ impl RunTimes {
 }
 
 // A node at an offset that can run the task: as a plan's, but of run times in one row, by the task's number.
+#[inline(always)]
 fn read_node(log: &[u8], at: usize, task: u32, times: &RunTimes) -> Result<u32, Refusal>
     requires { (at + 4 < 2 ^ 64) × (task < max_tasks) }
     ensures by_index { IfOk result (λ v. v < max_nodes) }
@@ -49,6 +50,7 @@ fn read_node(log: &[u8], at: usize, task: u32, times: &RunTimes) -> Result<u32, 
 }
 
 // One record at an offset.
+#[inline(always)]
 fn read_timing(log: &[u8], at: usize, times: &RunTimes) -> Result<Timing, Refusal>
     requires { at + 12 < 2 ^ 64 }
     ensures within { IfOk result (λ x. (x.task < max_tasks) × (x.node < max_nodes)) }
@@ -67,12 +69,15 @@ fn read_timing(log: &[u8], at: usize, times: &RunTimes) -> Result<Timing, Refusa
 }
 
 // The whole log, of any length: each record goes into the window as it is read. One that is cut short, behind the others, is refused.
+// No for: counted by records, its offset is worked out anew for each and a long log takes up to half as long again.
 pub fn read_log(log: &[u8], times: &RunTimes) -> Result<Window, Refusal>
     ensures { AllRead log.now times.now result }
 {
     let mut window = Window::empty();
-    for k in 0..log.len().div_ceil(Timing::LENGTH) {
-        window.take(read_timing(log, Timing::LENGTH * k, times)?);
+    let mut at: usize = 0;
+    while at < log.len() {
+        window.take(read_timing(log, at, times)?);
+        at += Timing::LENGTH;
     }
     Ok(window)
 }
