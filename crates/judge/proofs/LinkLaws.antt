@@ -2,7 +2,6 @@
 use Prim.Native.Nat.{ℕ, ◌+◌, ◌*◌, ◌^◌, ◌≤◌, ◌<◌}
 use mathlib.Core.Bool.{Bool, true, false, not, cond}
 use mathlib.Core.List.{List}
-use mathlib.Core.Option.{Option, none, some}
 use mathlib.Core.Path.{◌≡◌, refl, sym, ◌∙◌, ap, ap₂, subst}
 use native.Mathlib.Decide.{dec_lt}
 use native.Mathlib.Nat.{not-suc-le-zero}
@@ -12,7 +11,7 @@ use lib.Dec.{eqb}
 use lib.ListN.{get_or, set, length, replicate, length-replicate, length-set}
 use lib.Seq.{get_or-set_same, get_or-set_other}
 use borrow.Author.Tests.{eqb-true, eqb-false, eq-eqb}
-use Rattle.std.specs.Prelude.{Result, Option as Maybe, Some, None}
+use Rattle.std.specs.Prelude.{Option as Maybe, Some, None}
 use Rattle.reader.specs.declared.job.Job.{Job}
 use Rattle.reader.specs.declared.refusal.Refusal.{Refusal}
 use Rattle.reader.specs.declared.refusal.Refusal.TheVariants.{PrimaryUnfed}
@@ -20,9 +19,8 @@ use Rattle.reader.specs.Tests.{◌and◌, ◌or◌}
 use Rattle.reader.specs.First.{any}
 use Rattle.reader.specs.Limits.{max_tasks, max_links}
 use Rattle.reader.specs.Entries.{links, link}
-use Rattle.reader.specs.Refusals.{resulted, answered, answer_of}
+use Rattle.reader.specs.Refusals.{Answer, answered}
 use Rattle.reader.proofs.TestLaws.{split, or_none}
-use Rattle.reader.proofs.RefusalLaws.{resulted_value}
 use Rattle.reader.proofs.FirstLaws.{any_start, any_more}
 use Rattle.rules.specs.declared.Copy.{Copy}
 use Rattle.rules.specs.Copies.{in_time}
@@ -158,10 +156,6 @@ module _ (job : Job) (cs : Copies) (leave : List ℕ) (timed : Timed job cs leav
           ap₂ ◌and◌ (arrival (λ m. 2 * m) (λ m. 2 * m + 1) (timed.primary k low) p c y ep ec ey)
           (arrival (λ m. 2 * m + 1) (λ m. 2 * m + 1) (timed.backup k low) b c z eb ec ez)
 
-answer_resulted : {A : Type 0} (o : Option Refusal) (v : A) → answer_of (resulted o v) ≡ answered o
-answer_resulted none v = refl
-answer_resulted (some r) v = refl
-
 -- after all links
 abbrev pub link_refusal : Job → (ℕ → ℕ → Refusal) → ℕ → Refusal
 link_refusal job refusal k = refusal (link job k).from (link job k).to
@@ -174,14 +168,12 @@ module _ (job : Job) (cs : Copies) (leave : List ℕ) (timed : Timed job cs leav
   pub primary_index : (i : ℕ) → primary ≡ Some i → i < max_links
   primary_index i h = omega (arith, timed.few, note_below (keeps_d job cs) (links job) primary all.d i h)
 
-  pub walk_done : (r : Result ℕ Refusal) → r ≡ resulted (seen (link_refusal job PrimaryUnfed) primary) unsure → LinksJudged job cs into r
+  pub walk_done : (r : Answer) → r ≡ answered (seen (link_refusal job PrimaryUnfed) primary) → LinksJudged job cs into (unsure, r)
   unfolding by_links first_link
   walk_done r e =
       record {
         size = all.size;
         weak = all.weak;
-        answer =
-            ap answer_of e ∙ answer_resulted _ _
-            ∙ ap answered (note_seen (keeps_d job cs) (links job) primary all.d (link_refusal job PrimaryUnfed));
-        unsure = λ u is. subst (SureBut job (row_of cs) (links job)) (sym (resulted_value unsure _ (sym e ∙ is))) all.e;
+        answer = e ∙ ap answered (note_seen (keeps_d job cs) (links job) primary all.d (link_refusal job PrimaryUnfed));
+        unsure = all.e;
       }

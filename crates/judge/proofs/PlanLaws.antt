@@ -13,11 +13,11 @@ use borrow.Author.Tests.{eq-eqb}
 use Rattle.reader.specs.declared.job.Job.{Job}
 use Rattle.reader.specs.declared.plan.Plan.{Plan}
 use Rattle.reader.specs.declared.refusal.Refusal.{Refusal}
-use Rattle.std.specs.Prelude.{Result, Ok, Err, IsErrAnd}
+use Rattle.std.specs.Prelude.{Ok, Err, IsErrAnd}
 use Rattle.reader.specs.First.{◌or_else◌}
 use Rattle.reader.specs.Limits.{max_start, max_time}
 use Rattle.reader.specs.Entries.{nodes, tasks, links, task, link, run}
-use Rattle.reader.specs.Refusals.{Answer, answered, answer_of}
+use Rattle.reader.specs.Refusals.{Answer, answered}
 use Rattle.reader.specs.Sound.{Sound, PlanSound}
 use Rattle.reader.proofs.TestLaws.{split, clash}
 use Rattle.reader.proofs.RefusalLaws.{answered_done, answered_refused}
@@ -216,12 +216,12 @@ module _ (job : Job) (plan : Plan) (sound : Sound job) (reads : PlanSound job pl
         faults = λ i q p. ap (λ s. has s q) (it.own_set i p) ∙ has_one _ q ∙ sym (ap (λ f. f i q) (gathered_none job plan));
       }
 
-  module _ (into : List ℕ) (w : Result ℕ Refusal) (walked : LinksJudged job cs into w) where
-    links_answer : answer_of w ≡ answered (by_links job (rows job plan))
+  module _ (into : List ℕ) (w : ℕ × Answer) (walked : LinksJudged job cs into w) where
+    links_answer : w.1 ≡ answered (by_links job (rows job plan))
     links_answer = walked.answer ∙ ap answered (links_are job plan sound reads cs placed.tabled.copied)
 
-    pub links_refused : v ≡ Ok tt → {r : Refusal} → w ≡ Err r → (x : Answer) → IsErrAnd x (λ e. e ≡ r) → x ≡ judge job plan
-    links_refused done q = ends (pass _ (no_task done) ∙ stop _ ((answered_refused _ _).0 (sym links_answer ∙ ap answer_of q)))
+    pub links_refused : v ≡ Ok tt → {r : Refusal} → w.1 ≡ Err r → (x : Answer) → IsErrAnd x (λ e. e ≡ r) → x ≡ judge job plan
+    links_refused done q = ends (pass _ (no_task done) ∙ stop _ ((answered_refused _ _).0 (sym links_answer ∙ q)))
 
     -- the sets once all tasks are gathered, and the table with them
     module _ (sets : List ℕ) (gathers : let weak = take (tasks job) into in GathersAll weak (length weak) cs.set sets) where
@@ -245,47 +245,46 @@ module _ (job : Job) (plan : Plan) (sound : Sound job) (reads : PlanSound job pl
       abbrev full : Copies
       full = table cs.node cs.start cs.finish sets
 
-      module _ (unsure : ℕ) (is : w ≡ Ok unsure) where
-        pub pass_ready : Unsure job unsure full leave
-        pass_ready =
-            record {
-              timed = timed job plan sound reads cs placed.tabled.copied leave placed.leaving sets;
-              others = others job plan sound reads cs placed.tabled.copied sets filled leave placed.leaving.is
-                  unsure (walked.unsure unsure is);
-            }
+      pub pass_ready : Unsure job w.0 full leave
+      pass_ready =
+          record {
+            timed = timed job plan sound reads cs placed.tabled.copied leave placed.leaving sets;
+            others = others job plan sound reads cs placed.tabled.copied sets filled leave placed.leaving.is
+                w.0 walked.unsure;
+          }
 
-        -- what the pass answers
-        abbrev Passed : Answer → Type 0
-        Passed u = u ≡ answered (backup_breach job full leave)
+      -- what the pass answers
+      abbrev Passed : Answer → Type 0
+      Passed u = u ≡ answered (backup_breach job full leave)
 
-        backups_answer : (u : Answer) → Passed u → u ≡ answered (by_backups job (rows job plan))
-        backups_answer u e =
-            e
-            ∙ ap answered
-            (backups_are_judged job plan sound reads cs placed.tabled.copied sets filled leave placed.leaving.is)
+      backups_answer : (u : Answer) → Passed u → u ≡ answered (by_backups job (rows job plan))
+      backups_answer u e =
+          e
+          ∙ ap answered
+          (backups_are_judged job plan sound reads cs placed.tabled.copied sets filled leave placed.leaving.is)
 
-        -- every link is sure, or the pass found nothing
-        abbrev Fed : Type 0
-        Fed = (unsure ≡ 0) ⊎ ((u : Answer) × Passed u × (u ≡ Ok tt))
+      -- every link is sure, or the pass found nothing
+      abbrev Fed : Type 0
+      Fed = (w.0 ≡ 0) ⊎ ((u : Answer) × Passed u × (u ≡ Ok tt))
 
-        backups_kept : Fed → by_backups job (rows job plan) ≡ none
-        backups_kept =
-            ⊎_elim
-            (all_sure job plan sound reads cs placed.tabled.copied sets filled leave placed.leaving.is
-            unsure (walked.unsure unsure is))
-            (λ x. (answered_done _).0 (sym (backups_answer x.0 x.1) ∙ x.2))
+      backups_kept : Fed → by_backups job (rows job plan) ≡ none
+      backups_kept =
+          ⊎_elim
+          (all_sure job plan sound reads cs placed.tabled.copied sets filled leave placed.leaving.is
+          w.0 walked.unsure)
+          (λ x. (answered_done _).0 (sym (backups_answer x.0 x.1) ∙ x.2))
 
-        module _ (done : v ≡ Ok tt) where
-          before : (o : Option Refusal) → (by_tasks job (rows job plan) or_else by_links job (rows job plan) or_else o) ≡ o
-          before o = pass _ (no_task done) ∙ pass _ ((answered_done _).0 (sym links_answer ∙ ap answer_of is))
+      module _ (done : v ≡ Ok tt) (links_done : w.1 ≡ Ok tt) where
+        before : (o : Option Refusal) → (by_tasks job (rows job plan) or_else by_links job (rows job plan) or_else o) ≡ o
+        before o = pass _ (no_task done) ∙ pass _ ((answered_done _).0 (sym links_answer ∙ links_done))
 
-          pub backups_refused : (u : Answer) → Passed u → {r : Refusal} → u ≡ Err r
-              → (x : Answer) → IsErrAnd x (λ e. e ≡ r) → x ≡ judge job plan
-          backups_refused u e q = ends (before _ ∙ stop _ ((answered_refused _ _).0 (sym (backups_answer u e) ∙ q)))
+        pub backups_refused : (u : Answer) → Passed u → {r : Refusal} → u ≡ Err r
+            → (x : Answer) → IsErrAnd x (λ e. e ≡ r) → x ≡ judge job plan
+        backups_refused u e q = ends (before _ ∙ stop _ ((answered_refused _ _).0 (sym (backups_answer u e) ∙ q)))
 
-          pub faults_answered : Fed → (u : Answer) → u ≡ answered (fault_breach full job.nodes (tasks job)) → u ≡ judge job plan
-          unfolding judge
-          faults_answered fed u e =
-              e ∙ ap answered
-              (faults_are_judged job plan sound reads cs placed.tabled.copied sets filled leave placed.leaving.is
-              ∙ sym (pass _ (backups_kept fed)) ∙ sym (before _) ∙ breach_parts job (rows job plan))
+        pub faults_answered : Fed → (u : Answer) → u ≡ answered (fault_breach full job.nodes (tasks job)) → u ≡ judge job plan
+        unfolding judge
+        faults_answered fed u e =
+            e ∙ ap answered
+            (faults_are_judged job plan sound reads cs placed.tabled.copied sets filled leave placed.leaving.is
+            ∙ sym (pass _ (backups_kept fed)) ∙ sym (before _) ∙ breach_parts job (rows job plan))

@@ -1,12 +1,11 @@
 -- What the pass over the links gives: the weak links, the answer of D, and what it leaves of E.
-use Rattle.std.specs.Prelude.{ℕ, ◌+◌, ◌*◌, ◌≤◌, ◌<◌, Bool, true, false, List, ◌≡◌, get_or, length, Result, Ok}
+use Rattle.std.specs.Prelude.{ℕ, ◌+◌, ◌*◌, ◌≤◌, ◌<◌, Bool, true, false, List, ◌≡◌, get_or, length}
 use Rattle.reader.specs.declared.job.Job.{Job}
 use Rattle.reader.specs.declared.job.Link.{Link}
-use Rattle.reader.specs.declared.refusal.Refusal.{Refusal}
 use Rattle.reader.specs.First.{any}
 use Rattle.reader.specs.Limits.{max_tasks, max_links}
 use Rattle.reader.specs.Entries.{nodes, tasks, links, link}
-use Rattle.reader.specs.Refusals.{answered, answer_of}
+use Rattle.reader.specs.Refusals.{Answer, answered}
 use Rattle.rules.specs.Rules.{Row}
 use Rattle.rules.specs.Waits.{waits_for_both}
 use Rattle.copies.specs.declared.table.Copies.{Copies}
@@ -54,9 +53,9 @@ sure job t k = let l = link job k in waits_for_both job l (t l.from) (t l.to)
 abbrev pub SureBut : Job → (ℕ → Row) → ℕ → ℕ → Type 0
 SureBut job t k unsure = (m : ℕ) → m < k → sure job t m ≡ false → has unsure (link job m).from ≡ true
 
--- the weak links of all, the answer of D, and the senders of links that are not sure
-pub record LinksJudged (job : Job) (cs : Copies) (into : List ℕ) (r : Result ℕ Refusal) : Type 0 where
+-- the weak links of all, the answer of D, and beside it, whatever it is, the senders of links that are not sure
+pub record LinksJudged (job : Job) (cs : Copies) (into : List ℕ) (r : ℕ × Answer) : Type 0 where
   pub size : length into ≡ max_tasks
   pub weak : WeakTo job (row_of cs) (links job) into
-  pub answer : answer_of r ≡ answered (by_links job (row_of cs))
-  pub unsure : (u : ℕ) → r ≡ Ok u → SureBut job (row_of cs) (links job) u
+  pub answer : r.1 ≡ answered (by_links job (row_of cs))
+  pub unsure : SureBut job (row_of cs) (links job) r.0

@@ -45,7 +45,8 @@ pub fn judge_plan(job: &Job, plan: &Plan) -> Result<(), Refusal>
     let mut leave = [0; Copies::COUNT];
     place_copies(job, plan, &mut copies, &mut leave)?;
     let mut into = [0; Job::MAX_TASKS];
-    let unsure = walk_links(job, &copies, &leave, &mut into)?;
+    let (unsure, by_links) = walk_links(job, &copies, &leave, &mut into);
+    by_links?;
     fault_sets(&into[..job.task_count as usize], &mut copies.set);
     if unsure != 0 {
         backups_fed(job, unsure, &copies, &leave)?;

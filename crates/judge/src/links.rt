@@ -10,14 +10,14 @@ use copies::table::Copies;
 use reader::job::Job;
 use reader::refusal::Refusal;
 
-// D, and the senders whose links leave E to the fault sets: by the links of all others both results are in time for the backup.
+// The senders whose links leave E to the fault sets (by those of all others both results are in time for the backup), refused or not, and D's answer.
 // `into` has for each task, as bits, the tasks from which weak links lead to it; `leave` has when the result of each copy leaves.
 pub fn walk_links(
     job: &Job,
     copies: &Copies,
     leave: &[u32; Copies::COUNT],
     into: &mut [u64; Job::MAX_TASKS],
-) -> Result<u64, Refusal>
+) -> (u64, Result<(), Refusal>)
     requires { Timed job.now copies.now leave.now × (into.old ≡ replicate max_tasks 0) }
     ensures { LinksJudged job.now copies.now into.new result }
 {
@@ -39,7 +39,8 @@ pub fn walk_links(
     }
     if let Some(k) = primary {
         let l = &job.links[k];
-        return Err(Refusal::PrimaryUnfed(l.from as usize, l.to as usize));
+        let unfed = Refusal::PrimaryUnfed(l.from as usize, l.to as usize);
+        return (unsure, Err(unfed));
     }
-    Ok(unsure)
+    (unsure, Ok(()))
 }

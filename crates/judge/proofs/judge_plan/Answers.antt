@@ -8,19 +8,19 @@ pub returns-in_err-place_copies : goal.returns-in_err-place_copies
 returns-in_err-place_copies c =
     tasks_refused _ _ c.requires.0 c.requires.1 _ _ _ c.place_copies.ensures c.in_err-place_copies.was _ c.from_residual.ensures.1
 
-pub returns-in_err-unsure : goal.returns-in_err-unsure
-returns-in_err-unsure c =
-    links_refused _ _ c.requires.0 c.requires.1 _ _ _ c.place_copies.ensures _ _ c.walk_links.ensures
-    c.in_ok-place_copies.was c.in_err-unsure.was _ c.from_residual-in_err-unsure.ensures.1
+pub returns-in_err-by_links : goal.returns-in_err-by_links
+returns-in_err-by_links c =
+    links_refused _ _ c.requires.0 c.requires.1 _ _ _ c.place_copies.ensures _ _ c.walk_links-unsure.ensures
+    c.in_ok-place_copies.was c.in_err-by_links.was _ c.from_residual-in_err-by_links.ensures.1
 
 pub backups_fed-requires : goal.backups_fed-requires
 backups_fed-requires c =
-    pass_ready _ _ c.requires.0 c.requires.1 _ _ _ c.place_copies.ensures _ _ c.walk_links.ensures _ c.fault_sets.ensures _ c.in_ok-unsure.was
+    pass_ready _ _ c.requires.0 c.requires.1 _ _ _ c.place_copies.ensures _ _ c.walk_links-unsure.ensures _ c.fault_sets.ensures
 
 pub returns-in_err-backups_fed : goal.returns-in_err-backups_fed
 returns-in_err-backups_fed c =
-    backups_refused _ _ c.requires.0 c.requires.1 _ _ _ c.place_copies.ensures _ _ c.walk_links.ensures _ c.fault_sets.ensures _ c.in_ok-unsure.was
-    c.in_ok-place_copies.was _ c.backups_fed.ensures c.in_err-backups_fed.was _ c.from_residual-in_err-backups_fed.ensures.1
+    backups_refused _ _ c.requires.0 c.requires.1 _ _ _ c.place_copies.ensures _ _ c.walk_links-unsure.ensures _ c.fault_sets.ensures
+    c.in_ok-place_copies.was c.in_ok-by_links.was _ c.backups_fed.ensures c.in_err-backups_fed.was _ c.from_residual-in_err-backups_fed.ensures.1
 
 pub judge_faults-requires : goal.judge_faults-requires
 judge_faults-requires c =
@@ -29,8 +29,8 @@ judge_faults-requires c =
 
 pub returns : goal.returns
 returns c =
-    faults_answered _ _ c.requires.0 c.requires.1 _ _ _ c.place_copies.ensures _ _ c.walk_links.ensures _ c.fault_sets.ensures _ c.in_ok-unsure.was
-    c.in_ok-place_copies.was
+    faults_answered _ _ c.requires.0 c.requires.1 _ _ _ c.place_copies.ensures _ _ c.walk_links-unsure.ensures _ c.fault_sets.ensures
+    c.in_ok-place_copies.was c.in_ok-by_links.was
     (elim c.if-unsure-ne0.branch [
       | then-unsure-ne0+in_ok-backups_fed w ↦ inr (_, w.backups_fed.ensures, w.in_ok-backups_fed.was)
       | else-unsure-ne0 w ↦ inl w.if-unsure-ne0.false
