@@ -72,8 +72,8 @@ pub fn commit_files_to(
     commit_to(&held, &plan, &description, place, longer)
 }
 
-// A job and a plan of it as files, if both have room. By itself, so that its scratch isn't on the stack while a commit is judged. By the law that is
-// named a test for `<` in place of `room` is proved too: so a wrong program with `<=` is refused for that alone.
+// A job and a plan of it as files, if both have room. By itself, so that its scratch isn't on the stack while a commit is judged. The law that is
+// named proves a test for `<` before `room` too, so that a wrong program with `<=` is refused for that alone.
 #[inline(never)]
 #[tactic(auto, using(crate::proofs::CommitCalls::short_plan))]
 fn write_both(

@@ -2,15 +2,15 @@
 use mathlib.Core.Path.{refl}
 use Rattle.reader.proofs.JobLaws.{filled, unfilled}
 use Rattle.reader.proofs.NumberLaws.{is_none, is_fault}
+use Rattle.writer.proofs.WriteLaws.{hands_on}
 use Rattle.seqopchi.specs.Files.{plan_file}
 use Rattle.seqopchi.proofs.ReadLaws.{hands, job_sound}
-use Rattle.seqopchi.proofs.PlanLaws.{job_refused_fault, no_room_fault, no_place_fault, fits, plan_written}
+use Rattle.seqopchi.proofs.PlanLaws.{job_refused, no_room_fault, no_place_lem, fits, plan_written}
 use Rattle.seqopchi.proofs.plan_file.Goals as goal
 
 pub returns-in_err-fill_job : goal.returns-in_err-fill_job
-unfolding plan_file
 returns-in_err-fill_job c =
-    hands _ _ _ c.from_residual.ensures.1 (job_refused_fault c.args.job.now _ refl (unfilled c.args.job.now c.fill_job.ensures.answer c.in_err-fill_job.was))
+    hands_on _ c.from_residual.ensures.1 (job_refused c.args.job.now _ refl (unfilled c.args.job.now c.fill_job.ensures.answer c.in_err-fill_job.was))
 
 pub returns-in_err-room : goal.returns-in_err-room
 unfolding plan_file
@@ -25,11 +25,10 @@ plan_job-requires c =
     job_sound c.args.job.now refl read
 
 pub returns-in_err-plan : goal.returns-in_err-plan
-unfolding plan_file
 returns-in_err-plan c =
     let read = filled c.args.job.now c.fill_job.ensures.answer c.in_ok-fill_job.was c.in_ok-fill_job.ensures.job in
-    hands _ _ _ c.from_residual-in_err-plan.ensures.1
-    (no_place_fault c.args.job.now _ refl read (is_none _ _ _ c.room.ensures.answer c.in_ok-room.was) c.plan_job.ensures c.in_err-plan.was)
+    hands_on _ c.from_residual-in_err-plan.ensures.1
+    (no_place_lem c.args.job.now _ refl read (is_none _ _ _ c.room.ensures.answer c.in_ok-room.was) c.plan_job.ensures c.in_err-plan.was)
 
 pub put_plan-requires : goal.put_plan-requires
 put_plan-requires c =

@@ -3,9 +3,10 @@ use mathlib.Core.Path.{refl}
 use Rattle.reader.proofs.JobLaws.{filled, unfilled}
 use Rattle.reader.proofs.Chain.{stop}
 use Rattle.reader.proofs.NumberLaws.{is_none, is_value, is_fault}
+use Rattle.writer.proofs.WriteLaws.{hands_on}
 use Rattle.seqopchi.specs.Files.{replay_fault, replay_files}
 use Rattle.seqopchi.proofs.ReadLaws.{hands, roomy, job_sound, job_stops, plan_stops, both_done}
-use Rattle.seqopchi.proofs.ReadLaws.{both_sound, bad_group, bad_list_fault, bad_room, times_within, replayed}
+use Rattle.seqopchi.proofs.ReadLaws.{both_sound, bad_group, bad_list, bad_room, times_within, replayed}
 use Rattle.seqopchi.proofs.replay_files.Goals as goal
 
 pub returns-in_err-fill_job : goal.returns-in_err-fill_job
@@ -43,12 +44,11 @@ read_list-requires c =
     both_sound _ _ _ _ (both_done c.args.job.now refl read _ c.read_plan.ensures c.in_ok-places.was)
 
 pub returns-in_err-times : goal.returns-in_err-times
-unfolding replay_files
 returns-in_err-times c =
     let read = filled c.args.job.now c.fill_job.ensures.answer c.in_ok-fill_job.was c.in_ok-fill_job.ensures.job in
     let there = is_none _ _ _ c.lost_group.ensures c.in_ok-lost_group.was in
-    hands _ _ _ c.from_residual-in_err-times.ensures.1
-    (bad_list_fault _ _ _ _ (both_done c.args.job.now refl read _ c.read_plan.ensures c.in_ok-places.was) _ _ _ there
+    hands_on _ c.from_residual-in_err-times.ensures.1
+    (bad_list _ _ _ _ (both_done c.args.job.now refl read _ c.read_plan.ensures c.in_ok-places.was) _ _ _ there
     (is_fault _ _ _ c.read_list.ensures c.in_err-times.was))
 
 pub returns-in_err-room : goal.returns-in_err-room

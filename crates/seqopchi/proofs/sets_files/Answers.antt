@@ -1,17 +1,17 @@
 -- The call that tells fault sets: a refusal of a file or of the buffer, or the sets.
 use mathlib.Core.Path.{refl}
+use Rattle.reader.proofs.Chain.{handed}
 use Rattle.reader.proofs.JobLaws.{filled, unfilled}
 use Rattle.reader.proofs.NumberLaws.{is_none, is_fault}
 use Rattle.seqopchi.specs.Files.{sets_files}
 use Rattle.seqopchi.proofs.ReadLaws.{hands, roomy, job_sound, job_stops, plan_stops, both_done, both_sound}
-use Rattle.seqopchi.proofs.SetsLaws.{sets_stops_fault, sets_room_fault, sets_put}
+use Rattle.seqopchi.proofs.SetsLaws.{sets_stops, sets_room_fault, sets_put}
 use Rattle.seqopchi.proofs.sets_files.Goals as goal
 
 pub returns-in_err-fill_job : goal.returns-in_err-fill_job
-unfolding sets_files
 returns-in_err-fill_job c =
-    hands _ _ _ c.from_residual.ensures.1 (sets_stops_fault _ _ _ (job_stops c.args.job.now refl _
-    (unfilled c.args.job.now c.fill_job.ensures.answer c.in_err-fill_job.was)))
+    sets_stops _ _ _ _ (job_stops c.args.job.now refl _ (unfilled c.args.job.now c.fill_job.ensures.answer c.in_err-fill_job.was))
+    (handed _ _ c.from_residual.ensures.1 refl)
 
 pub read_plan-requires : goal.read_plan-requires
 read_plan-requires c =
@@ -19,10 +19,10 @@ read_plan-requires c =
     job_sound c.args.job.now refl read
 
 pub returns-in_err-places : goal.returns-in_err-places
-unfolding sets_files
 returns-in_err-places c =
     let read = filled c.args.job.now c.fill_job.ensures.answer c.in_ok-fill_job.was c.in_ok-fill_job.ensures.job in
-    hands _ _ _ c.from_residual-in_err-places.ensures.1 (sets_stops_fault _ _ _ (plan_stops c.args.job.now refl read _ c.read_plan.ensures c.in_err-places.was))
+    sets_stops _ _ _ _ (plan_stops c.args.job.now refl read _ c.read_plan.ensures c.in_err-places.was)
+    (handed _ _ c.from_residual-in_err-places.ensures.1 refl)
 
 pub returns-in_err-room : goal.returns-in_err-room
 unfolding sets_files
