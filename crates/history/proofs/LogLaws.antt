@@ -4,7 +4,6 @@ use mathlib.Core.Path.{◌≡◌, refl, sym, ap, ◌∙◌, subst}
 use mathlib.Core.List.{List}
 use mathlib.Core.Option.{none}
 use lib.ListN.{get_or, length}
-use native.Mathlib.Decide.{dec_lt}
 use native.Mathlib.Omega.{arith}
 use Rattle.reader.specs.declared.job.Job.{Job}
 use Rattle.reader.specs.declared.refusal.Refusal.{Refusal}
@@ -16,6 +15,7 @@ use Rattle.reader.specs.Number.{number_at, value_fault}
 use Rattle.reader.specs.Refusals.{resulted}
 use Rattle.reader.specs.Reads.{Reads}
 use Rattle.reader.specs.PlanFile.{node_fault}
+use Rattle.reader.proofs.TestLaws.{never}
 use Rattle.reader.proofs.NumberLaws.{is_none, is_value, is_fault}
 use Rattle.reader.proofs.Chain.{pass, stop, stopped, finished, reads_none, reads_some, reads_value}
 use Rattle.reader.proofs.FieldLaws.{field_good}
@@ -145,33 +145,36 @@ module _ (log : List ℕ) (times : RunTimes) (k : ℕ) (w : Window) (inv : LogTo
 pub record LogAt (log : List ℕ) (times : RunTimes) (at : ℕ) (w : Window) : Type 0 where
   pub k : ℕ
   pub is : at ≡ 12 * k
-  pub within : k ≤ records log
+  pub within : at ≤ length log
   pub to : LogTo log times k w
 
 pub log_first : (log : List ℕ) (times : RunTimes) → LogAt log times 0 empty_window
 log_first log times = record { k = 0; is = omega arith; within = omega arith; to = log_start log times }
 
 module _ (log : List ℕ) (times : RunTimes) (at : ℕ) (w : Window) (inv : LogAt log times at w) where
-  module _ (below : at < length log) (x : Result Timing Refusal) (one : OneRead log times at x) where
+  module _ (x : Result Timing Refusal) (one : OneRead log times at x) where
     here : OneRead log times (12 * inv.k) x
     here = subst (λ n. OneRead log times n x) inv.is one
 
-    pub stops : {r : Refusal} (v : Result Window Refusal) → x ≡ Err r → IsErrAnd v (λ e. e ≡ r) → AllRead log times v
-    unfolding records
-    stops {r} v q told = elim (dec_lt (length log) (12 * inv.k + 12)) [
-      | yes cut ↦ log_cut _ _ _ _ inv.to x here v (omega (arith, below, inv.is)) cut
-          (λ e h. let same : r ≡ e = cc in subst (λ m. IsErrAnd v (λ z. z ≡ m)) same told)
-      | no whole ↦ log_stop _ _ _ _ inv.to x here v (omega (arith, below, inv.is)) q told
-    ]
+    module _ (whole : at + 12 ≤ length log) where
+      pub stops : {r : Refusal} (v : Result Window Refusal) → x ≡ Err r → IsErrAnd v (λ e. e ≡ r) → AllRead log times v
+      unfolding records
+      stops v q told = log_stop _ _ _ _ inv.to x here v (omega (arith, whole, inv.is)) q told
 
-    pub goes_on : {y : Timing} (v : Window) → x ≡ Ok y → Takes w y v → LogAt log times (at + 12) v
-    unfolding records
-    goes_on v q push = record {
-      k = inv.k + 1;
-      is = omega (arith, inv.is);
-      within = omega (arith, below, inv.is);
-      to = log_more _ _ _ _ inv.to x here q v push;
-    }
+      pub goes_on : {y : Timing} (v : Window) → x ≡ Ok y → Takes w y v → LogAt log times (at + 12) v
+      goes_on v q push =
+          record { k = inv.k + 1; is = omega (arith, inv.is); within = whole; to = log_more _ _ _ _ inv.to x here q v push }
+
+    -- what is left behind the whole records
+    module _ (below : at < length log) (past : length log < at + 12) where
+      pub cut : (v : Result Window Refusal) → ((r : Refusal) → x ≡ Err r → IsErrAnd v (λ e. e ≡ r)) → AllRead log times v
+      cut v = log_cut _ _ _ _ inv.to x here v (omega (arith, below, inv.is)) (omega (arith, past, inv.is))
+
+      pub cut_stops : {r : Refusal} (v : Result Window Refusal) → x ≡ Err r → IsErrAnd v (λ e. e ≡ r) → AllRead log times v
+      cut_stops {r} v q told = cut v (λ e h. let same : r ≡ e = cc in subst (λ m. IsErrAnd v (λ z. z ≡ m)) same told)
+
+      pub cut_never : {y : Timing} (v : Result Window Refusal) → x ≡ Ok y → AllRead log times v
+      cut_never v q = cut v (λ e h. never (cc))
 
   pub ends : length log ≤ at → AllRead log times (Ok w)
   unfolding records

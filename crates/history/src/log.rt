@@ -69,15 +69,18 @@ fn read_timing(log: &[u8], at: usize, times: &RunTimes) -> Result<Timing, Refusa
 }
 
 // The whole log, of any length: each record goes into the window as it is read. One that is cut short, behind the others, is refused.
-// No for: counted by records, its offset is worked out anew for each and a long log takes up to half as long again.
+// No for: by a record's number its offset is worked out anew, and a long log takes up to half as long again; the loop has whole records alone.
 pub fn read_log(log: &[u8], times: &RunTimes) -> Result<Window, Refusal>
     ensures { AllRead log.now times.now result }
 {
     let mut window = Window::empty();
     let mut at: usize = 0;
-    while at < log.len() {
+    while at + Timing::LENGTH <= log.len() {
         window.take(read_timing(log, at, times)?);
         at += Timing::LENGTH;
+    }
+    if at < log.len() {
+        window.take(read_timing(log, at, times)?);
     }
     Ok(window)
 }
