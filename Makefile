@@ -6,7 +6,7 @@ test: prove console
 	@$(MAKE) --no-print-directory -j2 --output-sync=target tests
 	@tail -n 1 build/ci.log
 
-tests: limits samples compare test-compare test-tool
+tests: limits names samples compare test-compare test-tool
 
 # Lays out the files of every crate.
 fmt:

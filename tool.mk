@@ -1,5 +1,5 @@
 # The command line tool, its tests and the demo, and the check of the header: included by the Makefile.
-.PHONY: tool demo charts limits test-tool
+.PHONY: tool demo charts limits names test-tool
 
 SEQOPCHI_LIB ?= build/libseqopchi.a
 TOOL_SOURCES := $(sort $(wildcard tool/*.c))
@@ -42,6 +42,15 @@ limits: build/limits
 build/limits: $(LIMITS_SOURCES) tool/limits/limits.h include/seqopchi.h $(SEQOPCHI_LIB)
 	@mkdir -p build
 	$(CC) $(TOOL_SANITIZE) $(TOOL_FLAGS) $(LIMITS_SOURCES) $(SEQOPCHI_LIB) -o $@
+
+# What the library needs from outside: these two of the C library, and no other.
+NEEDED := memcpy memset
+
+names: $(SEQOPCHI_LIB)
+	@needed=$$(echo $$(nm -u $< | awk '$$1 == "U" { print $$2 }' | sort -u)); \
+	test "$$needed" = "$(NEEDED)" \
+		|| { echo "the library needs $$needed from outside, not $(NEEDED)"; exit 1; }; \
+	echo "names: the library needs $$needed from outside"
 
 test-tool: build/seqopchi-sanitized build/header-checked
 	tool/test.sh build/seqopchi-sanitized

@@ -73,9 +73,12 @@ module _ (job : Job) (plan : Plan) (d : Description) (x : Place) (ok : Committin
         rw bad
 
 -- what came with the longer job in a lent one, as values
-module _ {w : Result Plan Refusal} (longer : Job) {t : Result (Job × Plan) Refusal} (is : ◌≡◌ {A = Result (Job × Plan) Refusal} (with_job w longer) t) where
-  pub pair_handed : {long : Plan} → w ≡ Ok long → ◌≡◌ {A = Result (Job × Plan) Refusal} (Ok (longer, long)) t
+abbrev Both : Type 0
+Both = Result (Job × Plan) Refusal
+
+module _ {w : Result Plan Refusal} (longer : Job) {t : Both} (is : ◌≡◌ {A = Both} (with_job w longer) t) where
+  pub pair_handed : {long : Plan} → w ≡ Ok long → ◌≡◌ {A = Both} (Ok (longer, long)) t
   pair_handed q = sym (ap (λ x. with_job x longer) q) ∙ is
 
-  pub refusal_handed : {r : Refusal} → w ≡ Err r → ◌≡◌ {A = Result (Job × Plan) Refusal} (Err r) t
+  pub refusal_handed : {r : Refusal} → w ≡ Err r → ◌≡◌ {A = Both} (Err r) t
   refusal_handed q = sym (ap (λ x. with_job x longer) q) ∙ is

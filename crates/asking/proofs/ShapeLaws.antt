@@ -24,12 +24,14 @@ module _ {shape : Shape} (job : Job) (is : shape ≡ shape_of job) where
   of_job P h = subst (λ x. P (shaped job x)) is (h job)
 
   module _ (s : List ℕ) where
-    pub question_after : {w : Result Description Refusal}
-        → ((j : Job) → Reads (question_fault s (shaped j shape)) w (λ d. d ≡ description_at s (shaped j shape)))
-        → Reads (question_fault s job) w (λ d. d ≡ description_at s job)
-    question_after {w} = of_job (λ j. Reads (question_fault s j) w (λ d. d ≡ description_at s j))
+    abbrev Question : Result Description Refusal → Job → Type 0
+    Question w j = Reads (question_fault s j) w (λ d. d ≡ description_at s j)
 
-    pub booking_after : {w : Result (Description × Place) Refusal}
-        → ((j : Job) → Reads (booking_fault s (shaped j shape)) w (λ b. (b.0 ≡ description_at s (shaped j shape)) × (b.1 ≡ booked_place s (shaped j shape))))
-        → Reads (booking_fault s job) w (λ b. (b.0 ≡ description_at s job) × (b.1 ≡ booked_place s job))
-    booking_after {w} = of_job (λ j. Reads (booking_fault s j) w (λ b. (b.0 ≡ description_at s j) × (b.1 ≡ booked_place s j)))
+    abbrev Booking : Result (Description × Place) Refusal → Job → Type 0
+    Booking w j = Reads (booking_fault s j) w (λ b. (b.0 ≡ description_at s j) × (b.1 ≡ booked_place s j))
+
+    pub question_after : {w : Result Description Refusal} → ((j : Job) → Question w (shaped j shape)) → Question w job
+    question_after {w} = of_job (Question w)
+
+    pub booking_after : {w : Result (Description × Place) Refusal} → ((j : Job) → Booking w (shaped j shape)) → Booking w job
+    booking_after {w} = of_job (Booking w)

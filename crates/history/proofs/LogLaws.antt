@@ -167,7 +167,7 @@ module _ (log : List ℕ) (times : RunTimes) (at : ℕ) (w : Window) (inv : LogA
 
     -- what is left behind the whole records
     module _ (below : at < length log) (past : length log < at + 12) where
-      pub cut : (v : Result Window Refusal) → ((r : Refusal) → x ≡ Err r → IsErrAnd v (λ e. e ≡ r)) → AllRead log times v
+      cut : (v : Result Window Refusal) → ((r : Refusal) → x ≡ Err r → IsErrAnd v (λ e. e ≡ r)) → AllRead log times v
       cut v = log_cut _ _ _ _ inv.to x here v (omega (arith, below, inv.is)) (omega (arith, past, inv.is))
 
       pub cut_stops : {r : Refusal} (v : Result Window Refusal) → x ≡ Err r → IsErrAnd v (λ e. e ≡ r) → AllRead log times v

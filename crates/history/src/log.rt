@@ -68,7 +68,7 @@ fn read_timing(log: &[u8], at: usize, times: &RunTimes) -> Result<Timing, Refusa
     Ok(Timing { task, node, ticks })
 }
 
-// The whole log, of any length: each record goes into the window as it is read. One that is cut short, behind the others, is refused.
+// The whole log, of any length: each record goes into the window as it is read. One that is cut short, behind the others, is refused by its reading.
 // No for: by a record's number its offset is worked out anew, and a long log takes up to half as long again; the loop has whole records alone.
 pub fn read_log(log: &[u8], times: &RunTimes) -> Result<Window, Refusal>
     ensures { AllRead log.now times.now result }
@@ -80,7 +80,7 @@ pub fn read_log(log: &[u8], times: &RunTimes) -> Result<Window, Refusal>
         at += Timing::LENGTH;
     }
     if at < log.len() {
-        window.take(read_timing(log, at, times)?);
+        read_timing(log, at, times)?;
     }
     Ok(window)
 }
